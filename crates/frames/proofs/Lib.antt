@@ -1,0 +1,13 @@
+pub mod BranchOnly
+pub mod BranchReadBack
+pub mod BranchReplies
+pub mod Carried
+pub mod Codes
+pub mod Leads
+pub mod Packets
+pub mod PairBits
+pub mod Pairs
+pub mod QuestionsReadBack
+pub mod ReadBack
+pub mod RepliesReadBack
+pub mod Written

@@ -1,0 +1,14 @@
+use mathlib.Core.Path.{ap, _∙_}
+use Rattle.std.proofs.shelf.Results.{err-from-errBy}
+use Rattle.frames.specs.ReadReply.{reply-at, reply-in}
+use Rattle.frames.proofs.rdm.read_reply.read_reply.Needs as need
+
+pub returns-in-Break-packet : need.returns-in-Break-packet
+unfolding reply-at
+returns-in-Break-packet c =
+    let p = err-from-errBy (c .from-residual .result) (c .from-residual .ensures .1) in
+    rw (p .1, p .2) (ap (reply-in (c .args .expected)) (c .in-Break-packet .ensures tt))
+
+pub returns : need.returns
+unfolding reply-at
+returns c = c .match-reply .ensures ∙ ap (reply-in (c .args .expected)) (c .in-Continue-packet .ensures tt)

@@ -1,0 +1,10 @@
+pub mod BranchReply
+pub mod Bytes
+pub mod Opened
+pub mod Packet
+pub mod Parameter
+pub mod Question
+pub mod ReadReply
+pub mod Received
+pub mod Reply
+pub mod Writers

@@ -1,0 +1,2 @@
+// The frames of both buses: what is written to the wire, and what is read from it.
+pub mod rdm;

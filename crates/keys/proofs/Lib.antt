@@ -1,0 +1,2 @@
+pub mod RandomAddresses
+pub mod Uids

@@ -1,0 +1,4 @@
+pub mod Address
+pub mod Family
+pub mod RandomAddress
+pub mod Uid

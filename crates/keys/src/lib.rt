@@ -1,0 +1,6 @@
+// Families of keys: what a search looks for, and how ranges of keys are halved.
+pub mod address;
+pub mod family;
+pub mod random_address;
+pub mod range;
+pub mod uid;
