@@ -3,6 +3,7 @@ pub mod BranchReadBack
 pub mod BranchReplies
 pub mod Carried
 pub mod Codes
+pub mod DaliFrames
 pub mod Leads
 pub mod Packets
 pub mod PairBits

@@ -1,5 +1,9 @@
 pub mod BranchReply
+pub mod ByNumber
 pub mod Bytes
+pub mod Coded
+pub mod DaliCodes
+pub mod DaliFrame
 pub mod Opened
 pub mod Packet
 pub mod Parameter
@@ -7,4 +11,6 @@ pub mod Question
 pub mod ReadReply
 pub mod Received
 pub mod Reply
+pub mod Search
+pub mod ShortAddress
 pub mod Writers

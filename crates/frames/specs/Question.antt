@@ -47,22 +47,25 @@ destination-of (DeviceInfo key) = One key
 destination-of (StartAddress key a) = One key
 
 -- The controller is 7FF000000000, and its port is 1.
-abbrev pub header-of : Question → ℕ → Header
-header-of q transaction = record {
-  destination = destination-number (destination-of q);
+abbrev pub question-header : ℕ → ℕ → Parameter → Header
+question-header destination transaction p = record {
+  destination = destination;
   source = 0x7FF000000000;
   transaction = transaction;
   kind = 0x01;
-  class = class-of (parameter-of q);
-  pid = pid-of (parameter-of q);
+  class = class-of p;
+  pid = pid-of p;
 }
 
+abbrev pub header-of : Question → ℕ → Header
+header-of q transaction = question-header (destination-number (destination-of q)) transaction (parameter-of q)
+
 -- The ends of a range: six bytes each.
-unfoldable pub ends-bytes : Range Uid → List ℕ
-ends-bytes r = six-bytes (uid-number (r .lo)) ++ six-bytes (uid-number (r .hi))
+unfoldable pub ends-bytes : ℕ → ℕ → List ℕ
+ends-bytes lo hi = six-bytes lo ++ six-bytes hi
 
 abbrev pub question-payload : Question → List ℕ
-question-payload (Branch r) = ends-bytes r
+question-payload (Branch r) = ends-bytes (uid-number (r .lo)) (uid-number (r .hi))
 question-payload (Mute d) = []
 question-payload (UnMute d) = []
 question-payload (DeviceInfo key) = []

@@ -3,6 +3,7 @@ ghost use mathlib.Core.Path.{_≡_};
 ghost use lib.ListN.{take};
 ghost use Rattle.std.specs.Vec.{made};
 ghost use Rattle.std.specs.declared.option.Option.the-variants.{Some};
+ghost use Rattle.keys.specs.Uid.{uid-number};
 ghost use Rattle.frames.specs.Question.{destination-number, parameter-of, destination-of, header-of, ends-bytes, question-refusal, question-frame, heard};
 ghost use Rattle.frames.specs.Received.{question-at};
 ghost use Rattle.frames.specs.Writers.{answered, left-in};
@@ -128,7 +129,7 @@ impl Question {
 }
 
 fn ends_array(range: Range<Uid>) -> [u8; 12]
-    ensures { λ r. ⌜ r ≡ ends-bytes range ⌝ }
+    ensures { λ r. ⌜ r ≡ ends-bytes (uid-number (range .lo)) (uid-number (range .hi)) ⌝ }
 {
     let [_, _, l0, l1, l2, l3, l4, l5] = range.lo.number().to_be_bytes();
     let [_, _, h0, h1, h2, h3, h4, h5] = range.hi.number().to_be_bytes();
