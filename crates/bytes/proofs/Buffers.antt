@@ -1,10 +1,10 @@
 -- Buffers that are written part after part.
 use mathlib.Core.Path.{_≡_, sym, ap, _∙_}
 use mathlib.Core.List.{List, [], _++_, append-assoc}
-use Prim.Native.Nat.{ℕ, _+_}
+use Prim.Native.Nat.{ℕ, _+_, _≤_}
 use native.Mathlib.Omega.{arith}
 use lib.ListN.{length, take, drop, length-append}
-use Rattle.std.proofs.shelf.Lists.{take-at, drop-drop, drop-at}
+use Rattle.std.proofs.shelf.Lists.{take-at, length-take-le, drop-drop, drop-at}
 use Rattle.bytes.specs.Buffer.{put-at, begun}
 
 -- A part put right behind what is written.
@@ -36,3 +36,20 @@ put-three buf a b c b1 b2 b3 m n la lb p1 p2 p3 =
     let q2 : b2 ≡ begun buf (a ++ b) = p2 ∙ ap (λ s. put-at s m b) q1 ∙ put-begun buf a b m la in
     let long : length (a ++ b) ≡ n = simp length-append (omega arith) in
     (q2, p3 ∙ ap (λ s. put-at s n c) q2 ∙ put-begun buf (a ++ b) c n long)
+
+-- A part put behind another part.
+pub put-put : (buf a b : List ℕ) (at n : ℕ) → at ≤ length buf → at + length a ≡ n → put-at (put-at buf at a) n b ≡ put-at buf at (a ++ b)
+put-put buf a b at n within e =
+    let s = take at buf in
+    let rest = drop (at + length a) buf in
+    let begin : length s ≡ at = length-take-le at buf within in
+    let long : length (s ++ a) ≡ n = simp length-append (omega arith) in
+    let whole : s ++ (a ++ rest) ≡ (s ++ a) ++ rest = sym (append-assoc s a rest) in
+    let front : take n (s ++ (a ++ rest)) ≡ s ++ a = ap (take n) whole ∙ take-at (s ++ a) rest n long in
+    let size : at + length a + length b ≡ at + length (a ++ b) = simp length-append (omega arith) in
+    let behind : drop (n + length b) (s ++ (a ++ rest)) ≡ drop (at + length (a ++ b)) buf =
+          sym (drop-drop (length b) n (s ++ (a ++ rest)))
+          ∙ ap (drop (length b)) (ap (drop n) whole ∙ drop-at (s ++ a) rest n long)
+          ∙ drop-drop (length b) (at + length a) buf
+          ∙ ap (λ k. drop k buf) size in
+    rw (front, behind, append-assoc, append-assoc)

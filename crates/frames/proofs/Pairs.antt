@@ -1,5 +1,5 @@
 -- Pairs of bytes, taken from a list one after the other.
-use mathlib.Core.Bool.{Bool, true, false, _&&_}
+use mathlib.Core.Bool.{true, _&&_}
 use mathlib.Core.Path.{_≡_, refl, sym, ap, _∙_}
 use mathlib.Core.List.{List, [], _∷_}
 use Prim.Native.Nat.{ℕ, suc, _+_, _*_, _/_, _^_, _≤_, _<_}
@@ -50,9 +50,3 @@ module _ (xs : List ℕ) (i : ℕ) (more : i < length xs / 2) where
   pub carried-step : (n : ℕ) → carried-after n (drop (2 * i) xs) ≡ carried xs
     → carried-after (n * 256 + bitAnd (getD xs (2 * i) 0) (getD xs (2 * i + 1) 0)) (drop (2 * (i + 1)) xs) ≡ carried xs
   carried-step n inv = sym (ap (carried-after n) (drop-pair xs i more)) ∙ inv
-
-pub bits-lack : (all first rest : Bool) → all ≡ (first && rest) → first ≡ false → false ≡ all
-bits-lack all first rest e lacks = grind arith
-
-pub bits-have : (all first rest : Bool) → all ≡ (first && rest) → first ≡ true → rest ≡ all
-bits-have all first rest e has = grind arith

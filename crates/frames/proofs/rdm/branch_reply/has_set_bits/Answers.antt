@@ -1,15 +1,16 @@
 use mathlib.Core.Path.{sym, _∙_}
-use Rattle.frames.proofs.Pairs.{drop-pairs, bits-set-short, bits-step, bits-lack, bits-have}
+use Rattle.bytes.proofs.Every.{first-lacks, first-has}
+use Rattle.frames.proofs.Pairs.{drop-pairs, bits-set-short, bits-step}
 use Rattle.frames.proofs.rdm.branch_reply.has_set_bits.Needs as need
 
 pub returns-then-not-is-pair : need.returns-then-not-is-pair
 returns-then-not-is-pair c =
-    bits-lack _ _ _ (bits-step (c .args .pairs .now) (c .loop-i .i) (c .loop-i-test .taken) (c .loop-i .inv))
+    first-lacks _ _ _ (bits-step (c .args .pairs .now) (c .loop-i .i) (c .loop-i-test .taken) (c .loop-i .inv))
     (sym (c .is-pair .ensures) ∙ c .if-not-is-pair .taken)
 
 pub loop-i-again : need.loop-i-again
 loop-i-again c =
-    bits-have _ _ _ (bits-step (c .args .pairs .now) (c .loop-i .i) (c .loop-i-test .taken) (c .loop-i .inv))
+    first-has _ _ _ (bits-step (c .args .pairs .now) (c .loop-i .i) (c .loop-i-test .taken) (c .loop-i .inv))
     (sym (c .is-pair .ensures) ∙ c .if-not-is-pair .left)
 
 pub returns : need.returns

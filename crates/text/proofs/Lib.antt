@@ -1,0 +1,3 @@
+pub mod DecimalText
+pub mod Decimals
+pub mod Numbers
