@@ -13,10 +13,10 @@ put-begun buf written part n e =
     let rest = drop (length written) buf in
     let m = length part in
     let behind : drop (n + m) (written ++ rest) ≡ drop (length (written ++ part)) buf =
-          sym (drop-drop m n (written ++ rest))
-          ∙ ap (drop m) (drop-at written rest n e)
-          ∙ drop-drop m (length written) buf
-          ∙ ap (λ k. drop k buf) (sym (length-append written part)) in
+    sym (drop-drop m n (written ++ rest))
+    ∙ ap (drop m) (drop-at written rest n e)
+    ∙ drop-drop m (length written) buf
+    ∙ ap (λ k. drop k buf) (sym (length-append written part)) in
     rw (take-at written rest n e, behind, append-assoc)
 
 -- What is written can be read.
@@ -25,12 +25,12 @@ take-begun buf written n e = take-at written (drop (length written) buf) n e
 
 -- Three parts put one behind the other.
 pub put-three : (buf a b c b1 b2 b3 : List ℕ) (m n : ℕ)
-  → length a ≡ m
-  → m + length b ≡ n
-  → b1 ≡ put-at buf 0 a
-  → b2 ≡ put-at b1 m b
-  → b3 ≡ put-at b2 n c
-  → (b2 ≡ begun buf (a ++ b)) × (b3 ≡ begun buf ((a ++ b) ++ c))
+    → length a ≡ m
+    → m + length b ≡ n
+    → b1 ≡ put-at buf 0 a
+    → b2 ≡ put-at b1 m b
+    → b3 ≡ put-at b2 n c
+    → (b2 ≡ begun buf (a ++ b)) × (b3 ≡ begun buf ((a ++ b) ++ c))
 put-three buf a b c b1 b2 b3 m n la lb p1 p2 p3 =
     let q1 : b1 ≡ begun buf a = p1 ∙ put-begun buf [] a 0 (omega arith) in
     let q2 : b2 ≡ begun buf (a ++ b) = p2 ∙ ap (λ s. put-at s m b) q1 ∙ put-begun buf a b m la in
@@ -48,8 +48,17 @@ put-put buf a b at n within e =
     let front : take n (s ++ (a ++ rest)) ≡ s ++ a = ap (take n) whole ∙ take-at (s ++ a) rest n long in
     let size : at + length a + length b ≡ at + length (a ++ b) = simp length-append (omega arith) in
     let behind : drop (n + length b) (s ++ (a ++ rest)) ≡ drop (at + length (a ++ b)) buf =
-          sym (drop-drop (length b) n (s ++ (a ++ rest)))
-          ∙ ap (drop (length b)) (ap (drop n) whole ∙ drop-at (s ++ a) rest n long)
-          ∙ drop-drop (length b) (at + length a) buf
-          ∙ ap (λ k. drop k buf) size in
+    sym (drop-drop (length b) n (s ++ (a ++ rest)))
+    ∙ ap (drop (length b)) (ap (drop n) whole ∙ drop-at (s ++ a) rest n long)
+    ∙ drop-drop (length b) (at + length a) buf
+    ∙ ap (λ k. drop k buf) size in
     rw (front, behind, append-assoc, append-assoc)
+
+-- A text put into a buffer from a place on: the place behind it, and the buffer then.
+abbrev pub Puts : List ℕ → ℕ → List ℕ → ℕ → List ℕ → Type 0
+Puts buf at text end after = (end ≡ at + length text) × (after ≡ put-at buf at text)
+
+-- Two texts put one behind the other.
+pub puts-more : (buf a b b1 b2 : List ℕ) (at e1 e2 : ℕ) → at ≤ length buf → Puts buf at a e1 b1 → Puts b1 e1 b e2 b2 → Puts buf at (a ++ b) e2 b2
+puts-more buf a b b1 b2 at e1 e2 within (is1, p1) (is2, p2) =
+    (simp length-append (omega arith), p2 ∙ ap (λ s. put-at s e1 b) p1 ∙ put-put buf a b at e1 within (sym is1))

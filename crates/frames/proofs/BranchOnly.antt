@@ -32,26 +32,26 @@ refused-not-read refusal n e = let z : _≡_ {A = ℕ} 0 1 = cc in omega arith
 
 -- What follows the lead bytes stands behind the last of them.
 lead-only : (lead bytes body : List ℕ) → behind-lead lead bytes ≡ Some body
-  → (lost : ℕ) × (lost < length lead) × (bytes ≡ drop lost lead ++ body)
+    → (lost : ℕ) × (lost < length lead) × (bytes ≡ drop lost lead ++ body)
 lead-only [] bytes body e = absurd (nothing-found body e)
 lead-only (x ∷ lead) bytes body e = by-first (behind (x ∷ lead) bytes) refl e (lead-only lead bytes body)
   where
     by-first : (first : Option (List ℕ)) → behind (x ∷ lead) bytes ≡ first → or-else first (behind-lead lead bytes) ≡ Some body
-      → (behind-lead lead bytes ≡ Some body → (lost : ℕ) × (lost < length lead) × (bytes ≡ drop lost lead ++ body))
-      → (lost : ℕ) × (lost < suc (length lead)) × (bytes ≡ drop lost (x ∷ lead) ++ body)
+        → (behind-lead lead bytes ≡ Some body → (lost : ℕ) × (lost < length lead) × (bytes ≡ drop lost lead ++ body))
+        → (lost : ℕ) × (lost < suc (length lead)) × (bytes ≡ drop lost (x ∷ lead) ++ body)
     by-first (Some rest) found same later = (0, omega arith, append-behind (x ∷ lead) bytes body (found ∙ same))
     by-first None found same later = let h = later same in (suc (h .0), omega arith, h .2)
 
 -- What is known where nothing is refused.
 none-refused : (a b c d : Bool) (m n : ℕ)
-  → cond (not a) (Err WrongLength) (cond (not b) (Err MissingBits) (cond (not c) (Err WrongChecksum) (cond d (Ok m) (Err NotAKey)))) ≡ Ok n
-  → (a ≡ true) × (b ≡ true) × (c ≡ true) × (d ≡ true) × (m ≡ n)
+    → cond (not a) (Err WrongLength) (cond (not b) (Err MissingBits) (cond (not c) (Err WrongChecksum) (cond d (Ok m) (Err NotAKey)))) ≡ Ok n
+    → (a ≡ true) × (b ≡ true) × (c ≡ true) × (d ≡ true) × (m ≡ n)
 none-refused a b c d m n e = grind arith
 
 -- Twelve bytes that carry a number and four that carry their sum are the body of its reply.
 parts-only : (pairs sums : List ℕ) (n : ℕ) → length pairs ≡ 12 → length sums ≡ 4 → All Byte pairs → All Byte sums
-  → bits-set pairs ≡ true → bits-set sums ≡ true → carried pairs ≡ n → carried sums ≡ checksum-of pairs
-  → pairs ++ sums ≡ body-of (pairs-of (six-bytes n))
+    → bits-set pairs ≡ true → bits-set sums ≡ true → carried pairs ≡ n → carried sums ≡ checksum-of pairs
+    → pairs ++ sums ≡ body-of (pairs-of (six-bytes n))
 parts-only pairs sums n lp ls sp ss bp bs key sum =
     let p = pairs-back 6 pairs lp sp bp in
     let s = pairs-back 2 sums ls ss bs in
@@ -66,8 +66,8 @@ body-only : (body : List ℕ) (n : ℕ) → All Byte body → body-read body ≡
 unfolding sum-carried
 body-only body n small e =
     let known =
-          none-refused (eqb (length body) 16) (bits-set body) (sum-carried body) (ltb (carried (take 12 body)) (2 ^ 48 - 1))
-            (carried (take 12 body)) n e in
+    none-refused (eqb (length body) 16) (bits-set body) (sum-carried body) (ltb (carried (take 12 body)) (2 ^ 48 - 1))
+    (carried (take 12 body)) n e in
     let long = eqb-true (length body) 16 (known .0) in
     let front : length (take 12 body) ≡ 12 = simp length-take (omega arith) in
     let back : length (drop 12 body) ≡ 4 = simp length-drop (omega arith) in
@@ -75,16 +75,16 @@ body-only body n small e =
     let both = and-parts (bits-set (take 12 body)) (bits-set (drop 12 body)) (sym (bits-set-append 6 (take 12 body) (drop 12 body) front) ∙ ap bits-set whole ∙ known .1) in
     sym whole
     ∙ parts-only (take 12 body) (drop 12 body) n front back (all-take Byte 12 body small) (all-drop Byte 12 body small) (both .0) (both .1) (known .4)
-      (eqb-true (carried (drop 12 body)) (checksum-of (take 12 body)) (known .2))
+    (eqb-true (carried (drop 12 body)) (checksum-of (take 12 body)) (known .2))
 
 -- All of it: the reply of the key, less some of its lead bytes.
 pub branch-only : (bytes : List ℕ) (n : ℕ) → All Byte bytes → branch-read bytes ≡ Ok n
-  → (lost : ℕ) × (lost ≤ 7) × (bytes ≡ drop lost (branch-reply n))
+    → (lost : ℕ) × (lost ≤ 7) × (bytes ≡ drop lost (branch-reply n))
 unfolding branch-read branch-reply
 branch-only bytes n small e = by-rest (behind-lead lead-bytes bytes) refl e
   where
     by-rest : (rest : Option (List ℕ)) → behind-lead lead-bytes bytes ≡ rest → rest-read rest ≡ Ok n
-      → (lost : ℕ) × (lost ≤ 7) × (bytes ≡ drop lost (branch-reply n))
+        → (lost : ℕ) × (lost ≤ 7) × (bytes ≡ drop lost (branch-reply n))
     by-rest None found e = absurd (refused-not-read WrongStart n e)
     by-rest (Some body) found e =
         let lead = lead-only lead-bytes bytes body found in
@@ -96,6 +96,6 @@ branch-only bytes n small e = by-rest (behind-lead lead-bytes bytes) refl e
 
 -- The same of what a reader answered.
 pub answer-only : (bytes : List ℕ) (r : Result Uid Refusal) → All Byte bytes → key-number r ≡ branch-read bytes
-  → made r (λ key. (lost : ℕ) × (lost ≤ 7) × (bytes ≡ drop lost (branch-reply (uid-number key))))
+    → made r (λ key. (lost : ℕ) × (lost ≤ 7) × (bytes ≡ drop lost (branch-reply (uid-number key))))
 answer-only bytes (Ok key) small e = branch-only bytes (uid-number key) small (sym e)
 answer-only bytes (Err refusal) small e = tt

@@ -26,7 +26,7 @@ lead-read (suc (suc (suc (suc (suc (suc (suc zero))))))) body h = refl
 lead-read (suc (suc (suc (suc (suc (suc (suc (suc lost)))))))) body h = absurd (omega arith)
 
 body-accepts : (body : List ℕ) (n : ℕ) → length body ≡ 16 → bits-set body ≡ true → sum-carried body ≡ true → carried (take 12 body) ≡ n → n < 2 ^ 48 - 1
-  → body-read body ≡ Ok n
+    → body-read body ≡ Ok n
 body-accepts body n long set sum holds key =
     rw (eq-eqb (length body) 16 long, set, sum, holds, lt-ltb n (2 ^ 48 - 1) key)
 

@@ -14,10 +14,10 @@ unfolding branch-reply
 length-reply n = refl
 
 pub reply-put : (n : ℕ) (buf b1 b2 b3 : List ℕ)
-  → b1 ≡ put-at buf 0 lead-bytes
-  → b2 ≡ put-at b1 8 (pairs-of (six-bytes n))
-  → b3 ≡ put-at b2 20 (pairs-of (two-bytes (checksum-of (pairs-of (six-bytes n)))))
-  → b3 ≡ begun buf (branch-reply n)
+    → b1 ≡ put-at buf 0 lead-bytes
+    → b2 ≡ put-at b1 8 (pairs-of (six-bytes n))
+    → b3 ≡ put-at b2 20 (pairs-of (two-bytes (checksum-of (pairs-of (six-bytes n)))))
+    → b3 ≡ begun buf (branch-reply n)
 unfolding branch-reply
 reply-put n buf b1 b2 b3 p1 p2 p3 =
     let pairs = pairs-of (six-bytes n) in

@@ -53,7 +53,7 @@ carried-in n (p ∷ q ∷ pairs) = carried-in (n * 256 + bitAnd p q) pairs
 
 -- Pairs with their bits are those of the bytes that they carry.
 pub pairs-back : (m : ℕ) (pairs : List ℕ) → length pairs ≡ 2 * m → All Byte pairs → bits-set pairs ≡ true
-  → (pairs ≡ pairs-of (bytes-in pairs)) × (length (bytes-in pairs) ≡ m) × All Byte (bytes-in pairs)
+    → (pairs ≡ pairs-of (bytes-in pairs)) × (length (bytes-in pairs) ≡ m) × All Byte (bytes-in pairs)
 pairs-back m [] long small set = (refl, omega arith, tt)
 pairs-back m (p ∷ []) long small set = absurd (omega arith)
 pairs-back zero (p ∷ q ∷ pairs) long small set = absurd (omega arith)

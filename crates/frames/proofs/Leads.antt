@@ -33,8 +33,8 @@ append-behind (x ∷ start) (b ∷ bytes) rest e =
 
 -- What `strip_prefix` answers.
 pub stripped : (bytes start : List ℕ) (r : Option (RefT (List ℕ)))
-  → Cases r ((rest : List ℕ) → bytes ≡ start ++ rest → ⊥) (λ x. bytes ≡ start ++ x .now)
-  → mapped now r ≡ behind start bytes
+    → Cases r ((rest : List ℕ) → bytes ≡ start ++ rest → ⊥) (λ x. bytes ≡ start ++ x .now)
+    → mapped now r ≡ behind start bytes
 stripped bytes start (Some x) e = sym (ap (behind start) e ∙ behind-append start (x .now))
 stripped bytes start None no-rest = by-answer (behind start bytes) refl
   where
@@ -45,12 +45,12 @@ stripped bytes start None no-rest = by-answer (behind start bytes) refl
 -- The lead bytes from a place on, in a search for how many are lost: what follows them there.
 module _ (lead bytes : List ℕ) (lost : ℕ) (found : Option (List ℕ)) (read : found ≡ behind (take (length lead - lost) (drop lost lead)) bytes) where
   pub lead-step : lost < length lead → behind-lead (drop lost lead) bytes ≡ behind-lead lead bytes
-    → behind-lead lead bytes ≡ or-else found (behind-lead (drop (lost + 1) lead) bytes)
+      → behind-lead lead bytes ≡ or-else found (behind-lead (drop (lost + 1) lead) bytes)
   lead-step more inv =
       let next = drop-more lead lost 0 more in
       let here = ap (λ l. behind l bytes) (sym next ∙ sym (take-rest lead lost)) ∙ sym read in
       sym inv ∙ ap (λ l. behind-lead l bytes) next ∙ ap (λ f. or-else f (behind-lead (drop (lost + 1) lead) bytes)) here
 
 pub lead-end : (lead bytes : List ℕ) (lost : ℕ) → length lead ≤ lost → behind-lead (drop lost lead) bytes ≡ behind-lead lead bytes
-  → None ≡ behind-lead lead bytes
+    → None ≡ behind-lead lead bytes
 lead-end lead bytes lost over inv = sym (at-drop-all (λ l. behind-lead l bytes) lead lost over) ∙ inv

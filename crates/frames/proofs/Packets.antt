@@ -16,11 +16,11 @@ length-packet h payload = simp length-append (omega arith)
 
 -- The header, the data and the sum of both, put one behind the other, are the packet.
 pub packet-put : (h : Header) (payload buf b1 b2 b3 : List ℕ) (n : ℕ)
-  → n ≡ 24 + length payload
-  → b1 ≡ put-at buf 0 (header-bytes h (length payload))
-  → b2 ≡ put-at b1 24 payload
-  → b3 ≡ put-at b2 n (two-bytes (checksum-of (take n b2)))
-  → b3 ≡ begun buf (packet-of h payload)
+    → n ≡ 24 + length payload
+    → b1 ≡ put-at buf 0 (header-bytes h (length payload))
+    → b2 ≡ put-at b1 24 payload
+    → b3 ≡ put-at b2 n (two-bytes (checksum-of (take n b2)))
+    → b3 ≡ begun buf (packet-of h payload)
 unfolding packet-of
 packet-put h payload buf b1 b2 b3 n size p1 p2 p3 =
     let head = header-bytes h (length payload) in

@@ -26,7 +26,7 @@ carries-each = refl
 
 -- A byte is carried by its pair, and the pair has its bits.
 pub byte-carried : (b : ℕ) → b < 256
-  → (bitAnd (bitOr b 0xAA) (bitOr b 0x55) ≡ b) × (pair-set (bitOr b 0xAA) (bitOr b 0x55) ≡ true)
+    → (bitAnd (bitOr b 0xAA) (bitOr b 0x55) ≡ b) × (pair-set (bitOr b 0xAA) (bitOr b 0x55) ≡ true)
 unfolding carries
 byte-carried b small =
     let both = and-parts _ _ (at-each carries 256 carries-each b small) in
@@ -51,7 +51,7 @@ backs-each = refl
 
 -- A pair with its bits is that of the byte that it carries.
 pub pair-back : (p q : ℕ) → p < 256 → q < 256 → pair-set p q ≡ true
-  → (bitOr (bitAnd p q) 0xAA ≡ p) × (bitOr (bitAnd p q) 0x55 ≡ q)
+    → (bitOr (bitAnd p q) 0xAA ≡ p) × (bitOr (bitAnd p q) 0x55 ≡ q)
 unfolding backs back
 pair-back p q ps qs set =
     let bits = and-parts (eqb (bitAnd p 0xAA) 0xAA) (eqb (bitAnd q 0x55) 0x55) set in

@@ -13,7 +13,7 @@ use Rattle.frames.specs.BranchReply.{pair-set, bits-set, carried-after, carrie
 
 -- The pair at a place, and what is left behind it.
 pub drop-pair : (xs : List ℕ) (i : ℕ) → i < length xs / 2
-  → drop (2 * i) xs ≡ getD xs (2 * i) 0 ∷ getD xs (2 * i + 1) 0 ∷ drop (2 * (i + 1)) xs
+    → drop (2 * i) xs ≡ getD xs (2 * i) 0 ∷ getD xs (2 * i + 1) 0 ∷ drop (2 * (i + 1)) xs
 drop-pair xs i h =
     let next : 2 * i + 1 + 1 ≡ 2 * (i + 1) = omega arith in
     drop-more xs (2 * i) 0 (omega arith)
@@ -44,9 +44,9 @@ carry-fits n i b below few small =
 -- What a pair tells of all of them.
 module _ (xs : List ℕ) (i : ℕ) (more : i < length xs / 2) where
   pub bits-step : bits-set (drop (2 * i) xs) ≡ bits-set xs
-    → bits-set xs ≡ (pair-set (getD xs (2 * i) 0) (getD xs (2 * i + 1) 0) && bits-set (drop (2 * (i + 1)) xs))
+      → bits-set xs ≡ (pair-set (getD xs (2 * i) 0) (getD xs (2 * i + 1) 0) && bits-set (drop (2 * (i + 1)) xs))
   bits-step inv = sym inv ∙ ap bits-set (drop-pair xs i more)
 
   pub carried-step : (n : ℕ) → carried-after n (drop (2 * i) xs) ≡ carried xs
-    → carried-after (n * 256 + bitAnd (getD xs (2 * i) 0) (getD xs (2 * i + 1) 0)) (drop (2 * (i + 1)) xs) ≡ carried xs
+      → carried-after (n * 256 + bitAnd (getD xs (2 * i) 0) (getD xs (2 * i + 1) 0)) (drop (2 * (i + 1)) xs) ≡ carried xs
   carried-step n inv = sym (ap (carried-after n) (drop-pair xs i more)) ∙ inv

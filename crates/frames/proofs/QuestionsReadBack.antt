@@ -32,7 +32,7 @@ fields-fit q tn small = record {
 }
 
 asked-back : (q : Question) → question-refusal q ≡ None
-  → asked-of (parameter-at (class-of (parameter-of q)) (pid-of (parameter-of q))) (question-payload q) ≡ asked-by q
+    → asked-of (parameter-at (class-of (parameter-of q)) (pid-of (parameter-of q))) (question-payload q) ≡ asked-by q
 unfolding ends-bytes
 asked-back (Branch r) fine = ap₂ asked.Branch (omega arith) (omega arith)
 asked-back (Mute d) fine = refl
@@ -44,7 +44,7 @@ asked-back (StartAddress key a) fine =
     ap (λ n. asked.StartAddress (record { slot = n })) same
 
 pub question-reads-back : (q : Question) (tn : ℕ) → tn < 2 ^ 8 → question-refusal q ≡ None
-  → question-at (question-frame q tn) ≡ Some (heard q tn)
+    → question-at (question-frame q tn) ≡ Some (heard q tn)
 unfolding question-at
 question-reads-back q tn small fine =
     ap question-in (opened-packet (header-of q tn) (question-payload q) (fields-fit q tn small)) ∙ ap (λ a. Some (record { destination = destination-number (destination-of q); source = 0x7FF000000000; transaction = tn; asked = a })) (asked-back q fine)

@@ -48,7 +48,7 @@ response-back AddressTaken = refl
 response-back (AddressRefused reason) = refl
 
 pub reply-reads-back : (reply : Reply) (q : Received) → q .transaction < 2 ^ 8 → q .source ≡ 0x7FF000000000 → q .destination < 2 ^ 48 - 1
-  → reply-at (expected-by reply q) (reply-frame reply q) ≡ Ok (response-of reply, 24, reply-payload reply)
+    → reply-at (expected-by reply q) (reply-frame reply q) ≡ Ok (response-of reply, 24, reply-payload reply)
 unfolding reply-at
 reply-reads-back reply q small to-us from-key =
     let read = opened-packet (reply-header reply q) (reply-payload reply) (fields-fit reply q to-us from-key small) in

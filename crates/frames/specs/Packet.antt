@@ -10,8 +10,8 @@ abbrev pub header-bytes : Header → ℕ → List ℕ
 header-bytes h size =
     0xCC ∷ 0x01 ∷ (24 + size)
     ∷ (six-bytes (h .destination)
-      ++ (six-bytes (h .source)
-        ++ (h .transaction ∷ h .kind ∷ 0 ∷ 0 ∷ 0 ∷ h .class ∷ (two-bytes (h .pid) ++ (size ∷ [])))))
+    ++ (six-bytes (h .source)
+    ++ (h .transaction ∷ h .kind ∷ 0 ∷ 0 ∷ 0 ∷ h .class ∷ (two-bytes (h .pid) ++ (size ∷ [])))))
 
 -- Bytes with their checksum behind them.
 abbrev pub sealed : List ℕ → List ℕ

@@ -78,7 +78,12 @@ pub fn write_device_info(transaction: u8, key: u64, buf: &mut [u8]) -> Result<us
 }
 
 // Refusals: 1 not a key, 3 not an address from 1 to 512, 4.
-pub fn write_start_address(transaction: u8, key: u64, slot: u32, buf: &mut [u8]) -> Result<usize, Refusal>
+pub fn write_start_address(
+    transaction: u8,
+    key: u64,
+    slot: u32,
+    buf: &mut [u8],
+) -> Result<usize, Refusal>
     ensures answer { λ r. ⌜ r ≡ answered (start-refusal key slot) (start-frame transaction key slot) (now (buf .entry)) ⌝ }
     ensures after { λ _. ⌜ now (buf .exit) ≡ left-in (start-refusal key slot) (start-frame transaction key slot) (now (buf .entry)) ⌝ }
 {

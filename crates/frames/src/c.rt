@@ -73,7 +73,12 @@ pub extern "C" fn rdm_write_device_info(transaction: u8, key: u64, buf: &mut [u8
 
 // The length of the start address question, 28; refusals 1, 3, 4.
 #[unsafe(no_mangle)]
-pub extern "C" fn rdm_write_start_address(transaction: u8, key: u64, slot: u32, buf: &mut [u8]) -> i64
+pub extern "C" fn rdm_write_start_address(
+    transaction: u8,
+    key: u64,
+    slot: u32,
+    buf: &mut [u8],
+) -> i64
     ensures answer { λ r. ⌜ r ≡ coded (answered (start-refusal key slot) (start-frame transaction key slot) (now (buf .entry))) ⌝ }
     ensures after { λ _. ⌜ now (buf .exit) ≡ left-in (start-refusal key slot) (start-frame transaction key slot) (now (buf .entry)) ⌝ }
 {
@@ -82,7 +87,13 @@ pub extern "C" fn rdm_write_start_address(transaction: u8, key: u64, slot: u32, 
 
 // 0 for a yes, 2 for a no; refusals 5, 6, 8, 9. Class, parameter ID, transaction number and key are the question's.
 #[unsafe(no_mangle)]
-pub extern "C" fn rdm_reply_kind(class: u8, pid: u16, transaction: u8, key: u64, bytes: &[u8]) -> i64
+pub extern "C" fn rdm_reply_kind(
+    class: u8,
+    pid: u16,
+    transaction: u8,
+    key: u64,
+    bytes: &[u8],
+) -> i64
     ensures { λ r. ⌜ r ≡ coded (reply-kind (reply-at (record { class = class; pid = pid; transaction = transaction; key = key }) (now (bytes .entry)))) ⌝ }
 {
     let expected = Expected {
@@ -99,7 +110,13 @@ pub extern "C" fn rdm_reply_kind(class: u8, pid: u16, transaction: u8, key: u64,
 
 // How many bytes of data the reply has, from byte 24 on; refusals 5, 6, 8, 9.
 #[unsafe(no_mangle)]
-pub extern "C" fn rdm_reply_size(class: u8, pid: u16, transaction: u8, key: u64, bytes: &[u8]) -> i64
+pub extern "C" fn rdm_reply_size(
+    class: u8,
+    pid: u16,
+    transaction: u8,
+    key: u64,
+    bytes: &[u8],
+) -> i64
     ensures { λ r. ⌜ r ≡ coded (reply-size (reply-at (record { class = class; pid = pid; transaction = transaction; key = key }) (now (bytes .entry)))) ⌝ }
 {
     let expected = Expected {

@@ -16,7 +16,7 @@ uid-from-parts x y m d =
       device = d i;
       narrow = isProp→PathP (λ j. d j < 2 ^ 32) (λ j. le-prop) (x .narrow) (y .narrow) i;
       key =
-        isProp→PathP (λ j. m j * 2 ^ 32 + d j < 2 ^ 48 - 1) (λ j. le-prop) (x .key) (y .key) i;
+          isProp→PathP (λ j. m j * 2 ^ 32 + d j < 2 ^ 48 - 1) (λ j. le-prop) (x .key) (y .key) i;
     }
 
 pub same-from-rank : (x y : Uid) → uid-rank x ≡ uid-rank y → x ≡ y
@@ -29,13 +29,15 @@ rank-within x = omega arith
 
 pub with-rank : (n : ℕ) → n ≤ uid-top → (x : Uid) × (uid-rank x ≡ n)
 unfolding uid-rank
-with-rank n h =
-    (record {
-      manufacturer = n / 2 ^ 32;
-      device = n % 2 ^ 32;
-      narrow = omega arith;
-      key = omega arith;
-    }, omega arith)
+with-rank n h = (
+  record {
+    manufacturer = n / 2 ^ 32;
+    device = n % 2 ^ 32;
+    narrow = omega arith;
+    key = omega arith;
+  },
+  omega arith,
+)
 
 -- Keys have the order of their numbers.
 pub orders-agree : (x y : Uid) → ltb (uid-rank x) (uid-rank y) ≡ ltb (uid-number x) (uid-number y)

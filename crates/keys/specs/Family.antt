@@ -20,7 +20,7 @@ Next rank top k (Some x) = rank x ≡ rank k + 1
 abbrev pub Halves : {K : Type 0} → (K → ℕ) → Range K → Option (Range K × Range K) → Type 0
 Halves rank s None = rank (s .hi) ≤ rank (s .lo)
 Halves rank s (Some (lower, upper)) = rank (s .lo) < rank (s .hi)
-  × (lower .lo ≡ s .lo)
-  × (rank (lower .hi) ≡ (rank (s .lo) + rank (s .hi)) / 2)
-  × (rank (upper .lo) ≡ (rank (s .lo) + rank (s .hi)) / 2 + 1)
-  × (upper .hi ≡ s .hi)
+    × (lower .lo ≡ s .lo)
+    × (rank (lower .hi) ≡ (rank (s .lo) + rank (s .hi)) / 2)
+    × (rank (upper .lo) ≡ (rank (s .lo) + rank (s .hi)) / 2 + 1)
+    × (upper .hi ≡ s .hi)

@@ -32,7 +32,7 @@ unfolding digit-in
 ten-digit c = grind (arith, tells)
 
 one-more : (first rest : Bool) (v r : ℕ) (then : ℕ → Option ℕ) → then v ≡ cond rest (Some r) None
-  → and-then (cond first (Some v) None) then ≡ cond (first && rest) (Some r) None
+    → and-then (cond first (Some v) None) then ≡ cond (first && rest) (Some r) None
 one-more true rest v r then e = e
 one-more false rest v r then e = refl
 

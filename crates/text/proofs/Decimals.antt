@@ -27,10 +27,10 @@ length-more n large fits = ap length (more-digits n large fits) ∙ length-appen
 
 -- The front of a number and its last digit, put one behind the other.
 pub number-put : (buf b1 b2 : List ℕ) (n at end : ℕ) → 10 ≤ n → n < 2 ^ 64 → at ≤ length buf
-  → end ≡ at + length (decimal (n / 10))
-  → b1 ≡ put-at buf at (decimal (n / 10))
-  → b2 ≡ put-at b1 end (digit-text (n % 10) ∷ [])
-  → b2 ≡ put-at buf at (decimal n)
+    → end ≡ at + length (decimal (n / 10))
+    → b1 ≡ put-at buf at (decimal (n / 10))
+    → b2 ≡ put-at b1 end (digit-text (n % 10) ∷ [])
+    → b2 ≡ put-at buf at (decimal n)
 number-put buf b1 b2 n at end large fits within is p1 p2 =
     let last = digit-text (n % 10) ∷ [] in
     p2

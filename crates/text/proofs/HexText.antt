@@ -18,18 +18,18 @@ length-hex (b ∷ bytes) = let ih = length-hex bytes in omega arith
 
 -- One byte more.
 pub hex-more : (buf bytes b0 b1 : List ℕ) (at i end : ℕ)
-  → i < length bytes
-  → at + 2 * length bytes ≤ length buf
-  → end ≡ at + 2 * i
-  → b0 ≡ put-at buf at (hex-text (take i bytes))
-  → b1 ≡ put-at b0 end (byte-text (getD bytes i 0))
-  → b1 ≡ put-at buf at (hex-text (take (i + 1) bytes))
+    → i < length bytes
+    → at + 2 * length bytes ≤ length buf
+    → end ≡ at + 2 * i
+    → b0 ≡ put-at buf at (hex-text (take i bytes))
+    → b1 ≡ put-at b0 end (byte-text (getD bytes i 0))
+    → b1 ≡ put-at buf at (hex-text (take (i + 1) bytes))
 hex-more buf bytes b0 b1 at i end more room is p0 p1 =
     let x = getD bytes i 0 in
     let size = length-hex (take i bytes) in
     let few = length-take-le i bytes (omega arith) in
     let next : hex-text (take i bytes) ++ byte-text x ≡ hex-text (take (i + 1) bytes) =
-          joined-more byte-text [] (take i bytes) x ∙ ap hex-text (sym (take-more bytes i 0 more)) in
+    joined-more byte-text [] (take i bytes) x ∙ ap hex-text (sym (take-more bytes i 0 more)) in
     p1
     ∙ ap (λ b. put-at b end (byte-text x)) p0
     ∙ put-put buf (hex-text (take i bytes)) (byte-text x) at end (omega arith) (omega arith)
@@ -52,17 +52,17 @@ getD-bytes (a ∷ b ∷ text) (suc i) h =
 
 -- One pair more.
 pub pair-more : (buf text b0 b1 : List ℕ) (i x : ℕ)
-  → i < length text / 2
-  → b0 ≡ begun buf (take i (bytes-of text))
-  → x ≡ byte-of (getD text (2 * i) 0) (getD text (2 * i + 1) 0)
-  → b1 ≡ put-at b0 i (x ∷ [])
-  → b1 ≡ begun buf (take (i + 1) (bytes-of text))
+    → i < length text / 2
+    → b0 ≡ begun buf (take i (bytes-of text))
+    → x ≡ byte-of (getD text (2 * i) 0) (getD text (2 * i + 1) 0)
+    → b1 ≡ put-at b0 i (x ∷ [])
+    → b1 ≡ begun buf (take (i + 1) (bytes-of text))
 pair-more buf text b0 b1 i x more p0 is p1 =
     let size = length-bytes text in
     let within : i < length (bytes-of text) = omega arith in
     let here : x ≡ getD (bytes-of text) i 0 = is ∙ sym (getD-bytes text i more) in
     let next : take i (bytes-of text) ++ (x ∷ []) ≡ take (i + 1) (bytes-of text) =
-          ap (λ y. take i (bytes-of text) ++ (y ∷ [])) here ∙ sym (take-more (bytes-of text) i 0 within) in
+    ap (λ y. take i (bytes-of text) ++ (y ∷ [])) here ∙ sym (take-more (bytes-of text) i 0 within) in
     p1
     ∙ ap (λ b. put-at b i (x ∷ [])) p0
     ∙ put-begun buf (take i (bytes-of text)) (x ∷ []) i (length-take-le i (bytes-of text) (omega arith))

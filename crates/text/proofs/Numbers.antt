@@ -43,3 +43,7 @@ module _ (base n i : ℕ) (text : List ℕ) (more : i < length text) (inv : digi
 
   pub digit-some : (d : ℕ) → Some d ≡ digit-in base (getD text i 0) → digits-after base (n * base + d) (drop (i + 1) text) ≡ digits-after base 0 text
   digit-some d e = ap (λ r. and-then r then) e ∙ step
+
+-- Seven digits fit 32 bits.
+pub seven-fit : (n size : ℕ) → n < 16 ^ size → size ≤ 7 → n < 2 ^ 32
+seven-fit n size below few = let most : 16 ^ size ≤ 16 ^ 7 = pow-le-pow-right (omega arith) few in omega arith

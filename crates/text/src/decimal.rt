@@ -21,11 +21,17 @@ fn has_shape(text: &[u8]) -> bool
 }
 
 // The number that a text writes; none if it is no such text.
-pub fn read_decimal(text: &[u8]) -> Option<u64>
+pub fn read_decimal(text: &[u8]) -> Option<u32>
     ensures value { λ r. ⌜ r ≡ decimal-at (now (text .entry)) ⌝ }
     ensures is_the_text_of_its_number { λ r. ⌜ found r (λ n. now (text .entry) ≡ decimal-text n) ⌝ }
 {
-    if has_shape(text) { read_digits(10, text) } else { None }
+    if !has_shape(text) {
+        return None;
+    }
+    match read_digits(10, text) {
+        Some(number) => Some(number as u32),
+        None => None,
+    }
 }
 
 // Writes a number into a buffer from a place on, and answers the place behind it.

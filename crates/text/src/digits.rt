@@ -1,7 +1,8 @@
 // Digits of a base, and the number that they write.
 ghost use mathlib.Core.Path.{_≡_};
-ghost use Prim.Native.Nat.{_≤_, _<_};
+ghost use Prim.Native.Nat.{_^_, _≤_, _<_};
 ghost use lib.ListN.{length};
+ghost use Rattle.std.specs.Slices.{found};
 ghost use Rattle.text.specs.Digits.{digit-of, digit-in, digits-after, digit-text};
 
 // The value of a digit: capital letters go on from 9.
@@ -20,7 +21,11 @@ pub fn digit_char(value: u8) -> u8
     requires { ⌜ value < 16 ⌝ }
     ensures { λ r. ⌜ r ≡ digit-text value ⌝ }
 {
-    if value < 10 { b'0' + value } else { b'A' + (value - 10) }
+    if value < 10 {
+        b'0' + value
+    } else {
+        b'A' + (value - 10)
+    }
 }
 
 // The value of a digit of a base.
@@ -36,7 +41,8 @@ fn digit_in(base: u8, c: u8) -> Option<u8>
 // The number that digits of a base write; none if one of them is no such digit.
 pub fn read_digits(base: u8, text: &[u8]) -> Option<u64>
     requires { ⌜ base ≤ 16 ⌝ ∗ ⌜ length (now text) ≤ 16 ⌝ }
-    ensures { λ r. ⌜ r ≡ digits-after base 0 (now (text .entry)) ⌝ }
+    ensures value { λ r. ⌜ r ≡ digits-after base 0 (now (text .entry)) ⌝ }
+    ensures bound { λ r. ⌜ found r (λ n. n < 16 ^ length (now (text .entry))) ⌝ }
 {
     let mut number = 0u64;
     for c in text {

@@ -1,7 +1,8 @@
 // Hexadecimal numbers and bytes, in capital digits.
 ghost use mathlib.Core.Path.{_≡_};
-ghost use Prim.Native.Nat.{_+_, _*_, _/_, _≤_, _<_};
+ghost use Prim.Native.Nat.{_+_, _*_, _/_, _^_, _≤_, _<_};
 ghost use lib.ListN.{length};
+ghost use Rattle.std.specs.Slices.{found};
 ghost use Rattle.std.specs.declared.option.Option.the-variants.{Some};
 ghost use Rattle.bytes.specs.Buffer.{put-at, begun};
 ghost use Rattle.text.specs.Hexadecimal.{hex-at, byte-text, hex-text, all-hex, hex-pairs, byte-of, bytes-of, hex-bytes, bytes-read, bytes-left};
@@ -12,7 +13,8 @@ use bytes::put;
 
 // The number that one to sixteen digits write; none if it is no such text.
 pub fn read_hex(text: &[u8]) -> Option<u64>
-    ensures { λ r. ⌜ r ≡ hex-at (now (text .entry)) ⌝ }
+    ensures value { λ r. ⌜ r ≡ hex-at (now (text .entry)) ⌝ }
+    ensures bound { λ r. ⌜ found r (λ n. n < 16 ^ length (now (text .entry))) ⌝ }
 {
     if text.is_empty() || text.len() > 16 {
         return None;

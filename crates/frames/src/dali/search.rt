@@ -14,7 +14,11 @@ pub fn search_frames(key: RandomAddress) -> [Frame; 3]
     ensures { λ r. ⌜ r ≡ search-frames (random-number key) ⌝ }
 {
     let [_, _, _, _, _, high, middle, low] = key.number().to_be_bytes();
-    [Frame::SearchHigh(high), Frame::SearchMiddle(middle), Frame::SearchLow(low)]
+    [
+        Frame::SearchHigh(high),
+        Frame::SearchMiddle(middle),
+        Frame::SearchLow(low),
+    ]
 }
 
 // Writes the three frames, one behind the other, and answers their length. Refuses a buffer that is too short (4), and

@@ -16,7 +16,14 @@ pub fn six_at(bytes: &[u8], at: usize) -> u64
     ensures value { λ r. ⌜ r ≡ six-at (now (bytes .entry)) at ⌝ }
     ensures bound { λ r. ⌜ r < 2 ^ 48 ⌝ }
 {
-    let six = [bytes[at], bytes[at + 1], bytes[at + 2], bytes[at + 3], bytes[at + 4], bytes[at + 5]];
+    let six = [
+        bytes[at],
+        bytes[at + 1],
+        bytes[at + 2],
+        bytes[at + 3],
+        bytes[at + 4],
+        bytes[at + 5],
+    ];
     let [a, b, c, d, e, f] = six;
     u64::from_be_bytes([0, 0, a, b, c, d, e, f])
 }

@@ -3,6 +3,7 @@ ghost use mathlib.Core.Bool.{true};
 ghost use mathlib.Core.Path.{_≡_};
 ghost use Prim.Native.Nat.{_≤_};
 ghost use lib.ListN.{length};
+ghost use Rattle.std.specs.Vec.{made};
 ghost use Rattle.std.specs.declared.option.Option.the-variants.{None};
 ghost use Rattle.frames.specs.Opened.{starts, sized, summed, header-at, payload-at, opened, held};
 ghost use Rattle.frames.specs.Packet.{packet-of, header-bytes};
@@ -33,8 +34,30 @@ fn header_array(header: Header, size: u8) -> [u8; 24]
     let [_, _, s0, s1, s2, s3, s4, s5] = header.source.to_be_bytes();
     let [p0, p1] = header.pid.to_be_bytes();
     [
-        0xCC, 0x01, 24 + size, d0, d1, d2, d3, d4, d5, s0, s1, s2, s3, s4, s5, header.transaction, header.kind, 0, 0,
-        0, header.class, p0, p1, size,
+        0xCC,
+        0x01,
+        24 + size,
+        d0,
+        d1,
+        d2,
+        d3,
+        d4,
+        d5,
+        s0,
+        s1,
+        s2,
+        s3,
+        s4,
+        s5,
+        header.transaction,
+        header.kind,
+        0,
+        0,
+        0,
+        header.class,
+        p0,
+        p1,
+        size,
     ]
 }
 
@@ -68,9 +91,11 @@ fn has_start(bytes: &[u8]) -> bool
 
 fn has_size(bytes: &[u8]) -> bool
     ensures value { λ r. ⌜ r ≡ sized (now (bytes .entry)) ⌝ }
-    ensures bound { λ r. ⌜ (r ≡ true → 26 ≤ length (now (bytes .entry))) ⌝ }
+    ensures bound { λ r. ⌜ (r ≡ true → (26 ≤ length (now (bytes .entry))) × (length (now (bytes .entry)) ≤ 257)) ⌝ }
 {
-    bytes.len() >= 26 && bytes[2] as usize + 2 == bytes.len() && bytes[2] as usize == 24 + bytes[23] as usize
+    bytes.len() >= 26
+        && bytes[2] as usize + 2 == bytes.len()
+        && bytes[2] as usize == 24 + bytes[23] as usize
 }
 
 fn has_sum(bytes: &[u8]) -> bool
@@ -97,7 +122,8 @@ fn header_of(bytes: &[u8]) -> Header
 
 // Takes bytes apart, or answers the first of the refusals 5, 6 and 8 that they earn.
 pub fn read_packet(bytes: &[u8]) -> Result<Packet<'_>, Refusal>
-    ensures { λ r. ⌜ held r ≡ opened (now (bytes .entry)) ⌝ }
+    ensures value { λ r. ⌜ held r ≡ opened (now (bytes .entry)) ⌝ }
+    ensures bound { λ r. ⌜ made r (λ packet. length (now (packet .payload)) ≤ 231) ⌝ }
 {
     if !has_start(bytes) {
         return Err(Refusal::WrongStart);

@@ -95,8 +95,12 @@ impl Question {
         ensures { λ r. ⌜ r ≡ question-refusal self ⌝ }
     {
         match self {
-            Question::Branch(range) if range.hi.number() < range.lo.number() => Some(Refusal::LowerAboveUpper),
-            Question::StartAddress(_, address) if !is_in_family::<Uid>(address) => Some(Refusal::AddressOutside),
+            Question::Branch(range) if range.hi.number() < range.lo.number() => Some(
+                Refusal::LowerAboveUpper,
+            ),
+            Question::StartAddress(_, address) if !is_in_family::<Uid>(address) => Some(
+                Refusal::AddressOutside,
+            ),
             _ => None,
         }
     }
@@ -111,8 +115,16 @@ impl Question {
         let header = self.header(transaction);
         match self {
             Question::Branch(range) => write_packet(header, &ends_array(range), buf),
-            Question::StartAddress(_, address) => write_packet(header, &address.slot.to_be_bytes(), buf),
-            Question::Mute(_) | Question::UnMute(_) | Question::DeviceInfo(_) => write_packet(header, &[], buf),
+            Question::StartAddress(_, address) => write_packet(
+                header,
+                &address.slot.to_be_bytes(),
+                buf,
+            ),
+            Question::Mute(_) | Question::UnMute(_) | Question::DeviceInfo(_) => write_packet(
+                header,
+                &[],
+                buf,
+            ),
         }
     }
 

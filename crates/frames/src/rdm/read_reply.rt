@@ -1,6 +1,8 @@
 // The reply reader: what it is told of the question decides which replies match.
-ghost use mathlib.Core.Bool.{true};
 ghost use mathlib.Core.Path.{_≡_};
+ghost use Prim.Native.Nat.{_≤_};
+ghost use lib.ListN.{length};
+ghost use Rattle.std.specs.Vec.{made};
 ghost use Rattle.std.specs.declared.result.Result.the-variants.{Ok};
 ghost use Rattle.frames.specs.ReadReply.{expects, response-at, matches, reply-in, reply-at, reply-held, info-at};
 use crate::rdm::numbers::two_at;
@@ -70,7 +72,9 @@ fn read_response(kind: u8, size: usize) -> Option<Response>
 
 // The reply in a packet, if it is one to the question that is expected to be answered.
 fn match_reply(expected: Expected, packet: Packet<'_>) -> Result<ReadReply<'_>, Refusal>
-    ensures { λ r. ⌜ reply-held r ≡ reply-in expected (Ok (packet .entry .header, now (packet .entry .payload))) ⌝ }
+    requires { ⌜ length (now (packet .payload)) ≤ 231 ⌝ }
+    ensures value { λ r. ⌜ reply-held r ≡ reply-in expected (Ok (packet .entry .header, now (packet .entry .payload))) ⌝ }
+    ensures bound { λ r. ⌜ made r (λ reply. (reply .place ≡ 24) × (length (now (reply .payload)) ≤ 231)) ⌝ }
 {
     if !expected.matches_header(packet.header) {
         return Err(Refusal::NoMatch);
@@ -87,7 +91,8 @@ fn match_reply(expected: Expected, packet: Packet<'_>) -> Result<ReadReply<'_>, 
 
 // Reads a reply to the question that is expected to be answered, or answers the first of the refusals 5, 6, 8 and 9.
 pub fn read_reply(expected: Expected, bytes: &[u8]) -> Result<ReadReply<'_>, Refusal>
-    ensures { λ r. ⌜ reply-held r ≡ reply-at expected (now (bytes .entry)) ⌝ }
+    ensures value { λ r. ⌜ reply-held r ≡ reply-at expected (now (bytes .entry)) ⌝ }
+    ensures bound { λ r. ⌜ made r (λ reply. (reply .place ≡ 24) × (length (now (reply .payload)) ≤ 231)) ⌝ }
 {
     let packet = read_packet(bytes)?;
     match_reply(expected, packet)
@@ -101,7 +106,11 @@ pub fn read_device_info(payload: &[u8]) -> Option<DeviceInfo>
         return None;
     }
     let slot = two_at(payload, 14);
-    let address = if slot == 0xFFFF { None } else { Some(Address { slot }) };
+    let address = if slot == 0xFFFF {
+        None
+    } else {
+        Some(Address { slot })
+    };
     Some(DeviceInfo {
         width: two_at(payload, 10),
         address,

@@ -91,7 +91,27 @@ impl DeviceInfo {
         let [a0, a1] = slot.to_be_bytes();
         // Protocol version; model, category and software, all unknown; footprint; the first personality of one; start
         // address; no sub-devices and no sensors.
-        [0x01, 0x00, 0, 0, 0, 0, 0, 0, 0, 0, w0, w1, 0x01, 0x01, a0, a1, 0, 0, 0]
+        [
+            0x01,
+            0x00,
+            0,
+            0,
+            0,
+            0,
+            0,
+            0,
+            0,
+            0,
+            w0,
+            w1,
+            0x01,
+            0x01,
+            a0,
+            a1,
+            0,
+            0,
+            0,
+        ]
     }
 }
 
@@ -139,7 +159,11 @@ impl Reply {
             Reply::Muted | Reply::UnMuted => write_packet(header, &[0x00, 0x00], buf),
             Reply::Info(info) => write_packet(header, &info.to_bytes(), buf),
             Reply::AddressTaken => write_packet(header, &[], buf),
-            Reply::AddressRefused(reason) => write_packet(header, &reason.code().to_be_bytes(), buf),
+            Reply::AddressRefused(reason) => write_packet(
+                header,
+                &reason.code().to_be_bytes(),
+                buf,
+            ),
         }
     }
 

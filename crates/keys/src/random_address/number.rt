@@ -19,6 +19,8 @@ impl RandomAddress {
         if number > 0xFF_FFFF {
             return None;
         }
-        Some(RandomAddress { value: number as u32 })
+        Some(RandomAddress {
+            value: number as u32,
+        })
     }
 }

@@ -36,7 +36,7 @@ returns t c =
     record {
       end = omega (arith, more);
       after =
-        number-put (c .args .buf .now) (c .put-decimal-end .last .buf) (c .put-2 .last .buf) n (c .args .at) (c .put-decimal-end .result) large
+          number-put (c .args .buf .now) (c .put-decimal-end .last .buf) (c .put-2 .last .buf) n (c .args .at) (c .put-decimal-end .result) large
           (search needs)
           (omega arith)
           (c .put-decimal-end .ensures .end)

@@ -14,14 +14,15 @@ pub loop-b-holds : need.loop-b-holds
 loop-b-holds c = (omega arith, put-nothing (c .args .buf .now) (c .args .at))
 
 pub loop-b-again : need.loop-b-again
-loop-b-again c =
-    (omega arith,
-      hex-more (c .args .buf .now) (c .args .bytes .now) (c .loop-b .buf) (c .put-end .last .buf) (c .args .at) (c .loop-b .b-index) (c .loop-b .end)
-        (c .loop-b-test .taken)
-        (c .pre)
-        (c .loop-b .inv .0)
-        (c .loop-b .inv .1)
-        (c .put-end .ensures .after ∙ ap (put-at (c .loop-b .buf) (c .loop-b .end)) (c .byte-digits .ensures)))
+loop-b-again c = (
+  omega arith,
+  hex-more (c .args .buf .now) (c .args .bytes .now) (c .loop-b .buf) (c .put-end .last .buf) (c .args .at) (c .loop-b .b-index) (c .loop-b .end)
+      (c .loop-b-test .taken)
+      (c .pre)
+      (c .loop-b .inv .0)
+      (c .loop-b .inv .1)
+      (c .put-end .ensures .after ∙ ap (put-at (c .loop-b .buf) (c .loop-b .end)) (c .byte-digits .ensures)),
+)
 
 pub returns : need.returns
 returns c =

@@ -9,10 +9,10 @@ use Rattle.text.proofs.hexadecimal.write_pairs.Needs as need
 pub loop-i-again : need.loop-i-again
 loop-i-again c =
     pair-more (c .args .buf .now) (c .args .text .now) (c .loop-i .buf) (c .put .last .buf) (c .loop-i .i) (c .byte .result)
-      (c .loop-i-test .taken)
-      (c .loop-i .inv)
-      (c .byte .ensures)
-      (c .put .ensures .after)
+    (c .loop-i-test .taken)
+    (c .loop-i .inv)
+    (c .byte .ensures)
+    (c .put .ensures .after)
 
 pub returns : need.returns
 returns c =

@@ -18,7 +18,7 @@ returns c =
       answer = done .answer;
       after = done .after;
       reads-back =
-        written-result None (branch-reply n) _ _ _ (λ bytes. (lost : ℕ) → lost ≤ 7 → branch-read (drop lost bytes) ≡ Ok n)
+          written-result None (branch-reply n) _ _ _ (λ bytes. (lost : ℕ) → lost ≤ 7 → branch-read (drop lost bytes) ≡ Ok n)
           (done .answer)
           (done .after)
           (λ _ lost few. branch-reads-back n lost (c .args .key .key) few);

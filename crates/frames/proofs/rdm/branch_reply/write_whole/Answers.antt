@@ -16,10 +16,10 @@ returns c =
     let n = uid-number (c .args .key) in
     let size = length-reply n in
     let sum : c .sum-pairs-sum .result ≡ pairs-of (two-bytes (checksum-of (pairs-of (six-bytes n)))) =
-          c .sum-pairs-sum .ensures ∙ ap (λ s. pairs-of (two-bytes s)) (c .checksum .ensures ∙ ap checksum-of (c .key-pairs-pairs .ensures)) in
+    c .sum-pairs-sum .ensures ∙ ap (λ s. pairs-of (two-bytes s)) (c .checksum .ensures ∙ ap checksum-of (c .key-pairs-pairs .ensures)) in
     let filled =
-          reply-put n (c .args .buf .now) (c .put .last .buf) (c .put-2 .last .buf) (c .put-3 .last .buf)
-            (c .put .ensures .after)
-            (c .put-2 .ensures .after ∙ ap (put-at (c .put .last .buf) 8) (c .key-pairs-pairs .ensures))
-            (c .put-3 .ensures .after ∙ ap (put-at (c .put-2 .last .buf) 20) sum) in
+    reply-put n (c .args .buf .now) (c .put .last .buf) (c .put-2 .last .buf) (c .put-3 .last .buf)
+    (c .put .ensures .after)
+    (c .put-2 .ensures .after ∙ ap (put-at (c .put .last .buf) 8) (c .key-pairs-pairs .ensures))
+    (c .put-3 .ensures .after ∙ ap (put-at (c .put-2 .last .buf) 20) sum) in
     grind (arith, tells)

@@ -12,11 +12,11 @@ pub returns : need.returns
 returns c =
     let size = length-packet (c .args .header) (c .args .payload .now) in
     let filled =
-          packet-put (c .args .header) (c .args .payload .now) (c .args .buf .now) (c .put .last .buf) (c .put-end .last .buf)
-            (c .put-2 .last .buf)
-            (c .put-end .result)
-            (c .put-end .ensures .end)
-            (search needs)
-            (c .put-end .ensures .after)
-            (search needs) in
+    packet-put (c .args .header) (c .args .payload .now) (c .args .buf .now) (c .put .last .buf) (c .put-end .last .buf)
+    (c .put-2 .last .buf)
+    (c .put-end .result)
+    (c .put-end .ensures .end)
+    (search needs)
+    (c .put-end .ensures .after)
+    (search needs) in
     grind (arith, tells)

@@ -7,8 +7,12 @@ pub returns-in-Break-packet : need.returns-in-Break-packet
 unfolding reply-at
 returns-in-Break-packet c =
     let p = err-from-errBy (c .from-residual .result) (c .from-residual .ensures .1) in
-    rw (p .1, p .2) (ap (reply-in (c .args .expected)) (c .in-Break-packet .ensures tt))
+    let read = ap (reply-in (c .args .expected)) (c .in-Break-packet .ensures tt .value) in
+    record { value = rw (p .1, p .2) read; bound = rw (p .1) tt }
 
 pub returns : need.returns
 unfolding reply-at
-returns c = c .match-reply .ensures ∙ ap (reply-in (c .args .expected)) (c .in-Continue-packet .ensures tt)
+returns c = record {
+  value = c .match-reply .ensures .value ∙ ap (reply-in (c .args .expected)) (c .in-Continue-packet .ensures tt .value);
+  bound = c .match-reply .ensures .bound;
+}

@@ -5,8 +5,8 @@ use Rattle.frames.proofs.rdm.received.read_question.Needs as need
 
 pub returns-in-Ok : need.returns-in-Ok
 unfolding question-at
-returns-in-Ok c = let opened = ap question-in (c .in-Ok .ensures tt) in cc
+returns-in-Ok c = let opened = ap question-in (c .in-Ok .ensures tt .value) in cc
 
 pub returns-in-Err : need.returns-in-Err
 unfolding question-at
-returns-in-Err c = ap question-in (c .in-Err .ensures tt)
+returns-in-Err c = ap question-in (c .in-Err .ensures tt .value)

@@ -17,7 +17,7 @@ returns c =
       answer = answer;
       after = after;
       reads-back =
-        written-result None (frame-bytes frame) buf _ _ (λ bytes. (read : Frame) → frame-bytes read ≡ bytes → read ≡ frame)
+          written-result None (frame-bytes frame) buf _ _ (λ bytes. (read : Frame) → frame-bytes read ≡ bytes → read ≡ frame)
           answer
           after
           (λ _ read same. same-frame read frame same);

@@ -16,6 +16,6 @@ returns c =
       answer = done .answer;
       after = done .after;
       reads-back =
-        written-result (question-refusal q) (question-frame q tn) _ _ _ (λ bytes. question-at bytes ≡ Some (heard q tn))
+          written-result (question-refusal q) (question-frame q tn) _ _ _ (λ bytes. question-at bytes ≡ Some (heard q tn))
           (done .answer) (done .after) (question-reads-back q tn (search needs));
     }

@@ -17,10 +17,10 @@ returns c =
       answer = done .answer;
       after = done .after;
       reads-back =
-        λ to-us from-key.
+          λ to-us from-key.
           written-result None (reply-frame reply q) _ _ _
-            (λ bytes. reply-at (expected-by reply q) bytes ≡ Ok (response-of reply, 24, reply-payload reply))
-            (done .answer)
-            (done .after)
-            (λ _. reply-reads-back reply q (search needs) to-us from-key);
+          (λ bytes. reply-at (expected-by reply q) bytes ≡ Ok (response-of reply, 24, reply-payload reply))
+          (done .answer)
+          (done .after)
+          (λ _. reply-reads-back reply q (search needs) to-us from-key);
     }

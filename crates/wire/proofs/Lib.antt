@@ -1,0 +1,4 @@
+pub mod Frames
+pub mod Sizes
+pub mod Spaces
+pub mod Texts

@@ -1,0 +1,5 @@
+pub mod Answer
+pub mod Fields
+pub mod Kind
+pub mod Room
+pub mod Sent
