@@ -2,6 +2,7 @@
 use mathlib.Core.Path.{_≡_, sym, ap, _∙_}
 use mathlib.Core.List.{List, [], _++_, append-assoc}
 use Prim.Native.Nat.{ℕ, _+_, _≤_}
+use native.Mathlib.Nat.{zero-add}
 use native.Mathlib.Omega.{arith}
 use lib.ListN.{length, take, drop, length-append}
 use Rattle.std.proofs.shelf.Lists.{take-at, length-take-le, drop-drop, drop-at}
@@ -52,7 +53,7 @@ put-put buf a b at n within e =
     ∙ ap (drop (length b)) (ap (drop n) whole ∙ drop-at (s ++ a) rest n long)
     ∙ drop-drop (length b) (at + length a) buf
     ∙ ap (λ k. drop k buf) size in
-    rw (front, behind, append-assoc, append-assoc)
+    rw (front, behind, append-assoc s a (b ++ drop (at + length (a ++ b)) buf), append-assoc a b (drop (at + length (a ++ b)) buf))
 
 -- A text put into a buffer from a place on: the place behind it, and the buffer then.
 abbrev pub Puts : List ℕ → ℕ → List ℕ → ℕ → List ℕ → Type 0
@@ -62,3 +63,7 @@ Puts buf at text end after = (end ≡ at + length text) × (after ≡ put-at buf
 pub puts-more : (buf a b b1 b2 : List ℕ) (at e1 e2 : ℕ) → at ≤ length buf → Puts buf at a e1 b1 → Puts b1 e1 b e2 b2 → Puts buf at (a ++ b) e2 b2
 puts-more buf a b b1 b2 at e1 e2 within (is1, p1) (is2, p2) =
     (simp length-append (omega arith), p2 ∙ ap (λ s. put-at s e1 b) p1 ∙ put-put buf a b at e1 within (sym is1))
+
+-- A text put at the beginning.
+pub puts-begun : (buf text after : List ℕ) (end : ℕ) → Puts buf 0 text end after → (end ≡ length text) × (after ≡ begun buf text)
+puts-begun buf text after end (is, put) = (is ∙ zero-add (length text), put ∙ ap (λ n. text ++ drop n buf) (zero-add (length text)))

@@ -1,21 +1,22 @@
 -- The bytes of a line are at most half as many as its characters.
 use mathlib.Core.Bool.{Bool, true, false, cond}
-use mathlib.Core.Path.{_≡_, refl}
+use mathlib.Core.Path.{_≡_, refl, sym, ap}
 use mathlib.Core.List.{List, []}
 use Prim.Native.Nat.{ℕ, zero, suc, _+_, _*_, _≤_}
 use native.Mathlib.Omega.{arith}
 use lib.Chars.{codes}
 use lib.Dec.{eqb, ltb}
-use lib.ListN.{length, drop, length-take, length-drop}
+use lib.ListN.{length, drop, length-take, length-drop, length-append}
 use Rattle.std.proofs.shelf.Tests.{le-ltb}
 use Rattle.std.specs.Options.{isSome, mapped}
 use Rattle.std.specs.Slices.{found}
 use Rattle.std.specs.declared.option.Option.{Option}
 use Rattle.std.specs.declared.option.Option.the-variants.{Some, None}
+use Rattle.bytes.proofs.Buffers.{take-begun}
 use Rattle.text.specs.Digits.{and-then}
 use Rattle.text.specs.Hexadecimal.{hex-pairs, bytes-of, hex-bytes, bytes-read, bytes-left}
 use Rattle.text.proofs.HexText.{length-bytes}
-use Rattle.wire.specs.Fields.{space-at, field-at, last-field, bytes-in, last-bytes, bytes-begun}
+use Rattle.wire.specs.Fields.{space-at, field-at, last-field, bytes-in, last-bytes, bytes-begun, Bytes-at}
 use Rattle.wire.specs.Kind.{is-word}
 
 cond-found : {X : Type 0} (b : Bool) (x y : Option X) (P : X → Type 0) → found x P → found y P → found (cond b x y) P
@@ -48,7 +49,7 @@ bytes-short text =
     (cond-found (eqb (length text) 0) None (hex-bytes text) P tt
     (cond-found (hex-pairs text) (Some (bytes-of text)) None P (omega arith) tt))
 
-last-short : (n : ℕ) (line : List ℕ) → found (last-bytes n line) (λ bytes. 2 * length bytes ≤ length line)
+pub last-short : (n : ℕ) (line : List ℕ) → found (last-bytes n line) (λ bytes. 2 * length bytes ≤ length line)
 last-short n line =
     let P : List ℕ → Type 0 = λ f. length f ≤ length line in
     then-found (last-field n line) bytes-in P (λ bytes. 2 * length bytes ≤ length line)
@@ -66,3 +67,12 @@ fits None size buf short room = (refl, refl)
 pub last-fits : (n : ℕ) (line buf : List ℕ) → length line ≤ 2 * length buf
   → (bytes-read (last-bytes n line) buf ≡ mapped length (last-bytes n line)) × (bytes-left (last-bytes n line) buf ≡ bytes-begun (last-bytes n line) buf)
 last-fits n line buf room = fits (last-bytes n line) (length line) buf (last-short n line) room
+
+-- And what was read is at its beginning.
+pub read-bytes : (o : Option (List ℕ)) (r : Option ℕ) (size : ℕ) (buf after : List ℕ) → found o (λ bytes. 2 * length bytes ≤ size) → size ≤ 2 * length buf
+  → r ≡ mapped length o
+  → after ≡ bytes-begun o buf
+  → Bytes-at o r after
+read-bytes (Some bytes) r size buf after short room answer left =
+    rw (answer, left) (simp (length-append, length-drop) (omega arith), ap Some (sym (take-begun buf bytes (length bytes) refl)))
+read-bytes None r size buf after short room answer left = rw answer refl

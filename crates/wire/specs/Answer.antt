@@ -1,7 +1,7 @@
 -- The answers, as text.
 use mathlib.Core.Bool.{cond}
 use mathlib.Core.List.{List, [], _∷_, _++_}
-use Prim.Native.Nat.{ℕ}
+use Prim.Native.Nat.{ℕ, _+_}
 use lib.Chars.{codes}
 use lib.Dec.{ltb}
 use lib.ListN.{length}
@@ -10,6 +10,7 @@ use Rattle.std.specs.declared.option.Option.{Option}
 use Rattle.std.specs.declared.option.Option.the-variants.{Some, None}
 use Rattle.std.specs.declared.result.Result.{Result}
 use Rattle.std.specs.declared.result.Result.the-variants.{Ok, Err}
+use Rattle.bytes.specs.Buffer.{put-at}
 use Rattle.refusals.specs.Numbers.{number-of}
 use Rattle.refusals.specs.declared.Refusal.{Refusal}
 use Rattle.frames.specs.BranchReply.{branch-read}
@@ -95,13 +96,25 @@ answer-of kind.BranchReply line = writing-answer kind.BranchReply line
 answer-of kind.Search line = writing-answer kind.Search line
 answer-of kind.Program line = writing-answer kind.Program line
 
+-- Where a text ends that is put from a place on, and the buffer then; nothing is put if there is none.
+abbrev pub text-end : ℕ → Option (List ℕ) → Option ℕ
+text-end at (Some text) = Some (at + length text)
+text-end at None = None
+
+abbrev pub with-text : List ℕ → ℕ → Option (List ℕ) → List ℕ
+with-text buf at (Some text) = put-at buf at text
+with-text buf at None = buf
+
 -- ? stands for a line that cannot be read.
 abbrev pub or-unread : Option (List ℕ) → List ℕ
 or-unread (Some text) = text
 or-unread None = codes "?"
 
+abbrev pub known-answer : List ℕ → Option (List ℕ)
+known-answer line = and-then (and-then (field-at 0 line) kind-of) (λ k. answer-of k line)
+
 unfoldable pub answer-text : List ℕ → List ℕ
-answer-text line = or-unread (and-then (field-at 0 line) (λ word. and-then (kind-of word) (λ k. answer-of k line)))
+answer-text line = or-unread (known-answer line)
 
 -- The line, and its answer behind it; a line of more than 2,048 bytes is not printed again.
 unfoldable pub answer-line : List ℕ → List ℕ

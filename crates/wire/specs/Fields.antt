@@ -1,7 +1,8 @@
 -- The fields of a line, with one space between them.
 use mathlib.Core.Bool.{Bool, cond, not}
 use mathlib.Core.List.{List, []}
-use Prim.Native.Nat.{ℕ, zero, suc, _+_}
+use mathlib.Core.Path.{_≡_}
+use Prim.Native.Nat.{ℕ, zero, suc, _+_, _≤_}
 use lib.Chars.{codes}
 use lib.Dec.{eqb, ltb}
 use lib.ListN.{length, take, drop}
@@ -63,3 +64,8 @@ last-bytes n line = and-then (last-field n line) bytes-in
 abbrev pub bytes-begun : Option (List ℕ) → List ℕ → List ℕ
 bytes-begun (Some bytes) buf = begun buf bytes
 bytes-begun None buf = buf
+
+-- What was read of bytes: so many, at the beginning of a buffer.
+abbrev pub Bytes-at : Option (List ℕ) → Option ℕ → List ℕ → Type 0
+Bytes-at o None buf = o ≡ None
+Bytes-at o (Some size) buf = (size ≤ length buf) × (o ≡ Some (take size buf))

@@ -4,7 +4,7 @@ ghost use Prim.Native.Nat.{_*_, _≤_, _<_};
 ghost use lib.ListN.{length};
 ghost use Rattle.std.specs.Options.{mapped};
 ghost use Rattle.text.specs.Hexadecimal.{bytes-read, bytes-left};
-ghost use Rattle.wire.specs.Fields.{space-at, field-at, decimal-field, hex-field, byte-field, two-byte-field, last-decimal, last-bytes, bytes-in, bytes-begun};
+ghost use Rattle.wire.specs.Fields.{space-at, field-at, decimal-field, hex-field, byte-field, two-byte-field, last-decimal, last-bytes, bytes-in, bytes-begun, Bytes-at};
 use crate::kind::is_same;
 use text::decimal::read_decimal;
 use text::hexadecimal::read_hex;
@@ -110,6 +110,7 @@ pub fn last_bytes(n: usize, line: &[u8], buf: &mut [u8]) -> Option<usize>
     requires room { ⌜ length (now line) ≤ 2 * length (now buf) ⌝ }
     ensures answer { λ r. ⌜ r ≡ mapped length (last-bytes n (now (line .entry))) ⌝ }
     ensures after { λ _. ⌜ now (buf .exit) ≡ bytes-begun (last-bytes n (now (line .entry))) (now (buf .entry)) ⌝ }
+    ensures bytes { λ r. ⌜ Bytes-at (last-bytes n (now (line .entry))) r (now (buf .exit)) ⌝ }
 {
     write_last_bytes(n, line, buf)
 }
