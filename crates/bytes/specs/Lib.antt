@@ -1,1 +1,3 @@
 pub mod Buffer
+pub mod Bytes
+pub mod Writers

@@ -1,9 +1,8 @@
 // A family of keys: the keys that can be fitted to one kind of line, ordered by rank, and the addresses that
 // its fixtures can be given.
 ghost use mathlib.Core.Path.{_≡_};
-ghost use Prim.Native.Nat.{ℕ, _+_, _/_, _^_, _<_, _≤_};
-ghost use lib.Dec.{ltb, eqb};
-ghost use Rattle.keys.specs.Family.{AtRank, Next};
+ghost use Prim.Native.Nat.{ℕ, _^_, _<_, _≤_};
+ghost use Rattle.keys.specs.Family.{AtRank};
 
 pub trait Family: Copy {
     // The place of a key among the keys of the family, counted from 0.
@@ -48,52 +47,4 @@ pub trait Family: Copy {
 
     fn address_count() -> u16
         ensures { λ r. ⌜ r ≡ count ⌝ };
-
-    fn lowest() -> Self
-        ensures { λ r. ⌜ rank r ≡ 0 ⌝ }
-    {
-        match Self::from_rank(0) {
-            Some(key) => key,
-            None => unreachable(),
-        }
-    }
-
-    fn highest() -> Self
-        ensures { λ r. ⌜ rank r ≡ top ⌝ }
-    {
-        match Self::from_rank(Self::highest_rank()) {
-            Some(key) => key,
-            None => unreachable(),
-        }
-    }
-
-    // The key of half the sum of the ranks, rounded down.
-    fn half(lo: Self, hi: Self) -> Self
-        ensures { λ r. ⌜ rank r ≡ (rank lo + rank hi) / 2 ⌝ }
-    {
-        match Self::from_rank((lo.to_rank() + hi.to_rank()) / 2) {
-            Some(key) => key,
-            None => unreachable(),
-        }
-    }
-
-    // The key of the next rank; none after the highest.
-    fn after(self) -> Option<Self>
-        ensures { λ r. ⌜ Next rank top self r ⌝ }
-    {
-        Self::from_rank(self.to_rank() + 1)
-    }
-
-    // Keys are ordered by rank.
-    fn is_below(self, other: Self) -> bool
-        ensures { λ r. ⌜ r ≡ ltb (rank self) (rank other) ⌝ }
-    {
-        self.to_rank() < other.to_rank()
-    }
-
-    fn is_same(self, other: Self) -> bool
-        ensures { λ r. ⌜ r ≡ eqb (rank self) (rank other) ⌝ }
-    {
-        self.to_rank() == other.to_rank()
-    }
 }

@@ -3,7 +3,7 @@ ghost use Prim.Native.Nat.{_^_, _<_};
 
 #[derive(Clone, Copy)]
 pub struct RandomAddress {
-    value: u32,
+    pub value: u32,
     ghost narrow: { value < 2 ^ 24 },
 }
 

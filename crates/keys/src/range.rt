@@ -1,6 +1,9 @@
 // Ranges of keys, both ends included, and their halves.
 ghost use Rattle.keys.specs.Family.{Halves};
 use crate::family::Family;
+use crate::order::after;
+use crate::order::half;
+use crate::order::is_below;
 
 #[derive(Clone, Copy)]
 pub struct Range<K> {
@@ -12,15 +15,15 @@ pub struct Range<K> {
 pub fn split<K: Family>(range: Range<K>) -> Option<(Range<K>, Range<K>)>
     ensures { λ r. ⌜ Halves rank range r ⌝ }
 {
-    if !range.lo.is_below(range.hi) {
+    if !is_below(range.lo, range.hi) {
         return None;
     }
-    let half = K::half(range.lo, range.hi);
+    let middle = half(range.lo, range.hi);
     let lower = Range {
         lo: range.lo,
-        hi: half,
+        hi: middle,
     };
-    let Some(next) = half.after() else {
+    let Some(next) = after(middle) else {
         return None;
     };
     let upper = Range {

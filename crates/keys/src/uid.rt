@@ -4,8 +4,8 @@ ghost use Prim.Native.Nat.{_+_, _-_, _*_, _^_, _<_};
 // FFFFFFFFFFFF is the broadcast and no key, so it is no value of this type.
 #[derive(Clone, Copy)]
 pub struct Uid {
-    manufacturer: u16,
-    device: u32,
+    pub manufacturer: u16,
+    pub device: u32,
     ghost narrow: { device < 2 ^ 32 },
     ghost key: { manufacturer * 2 ^ 32 + device < 2 ^ 48 - 1 },
 }

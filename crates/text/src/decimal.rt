@@ -8,9 +8,9 @@ ghost use Rattle.std.specs.Written.{decimal as decimal-text};
 ghost use Rattle.std.specs.declared.option.Option.the-variants.{Some};
 ghost use Rattle.bytes.specs.Buffer.{put-at};
 ghost use Rattle.text.specs.Decimal.{fits-decimal, decimal-at};
-use crate::digits::digit_char;
-use crate::digits::read_digits;
-use bytes::put;
+use crate::digit_char;
+use crate::read_digits;
+use bytes::buffer::put;
 
 fn has_shape(text: &[u8]) -> bool
     ensures value { λ r. ⌜ r ≡ fits-decimal (now (text .entry)) ⌝ }

@@ -6,10 +6,10 @@ ghost use Rattle.std.specs.Slices.{found};
 ghost use Rattle.std.specs.declared.option.Option.the-variants.{Some};
 ghost use Rattle.bytes.specs.Buffer.{put-at, begun};
 ghost use Rattle.text.specs.Hexadecimal.{hex-at, byte-text, hex-text, all-hex, hex-pairs, byte-of, bytes-of, hex-bytes, bytes-read, bytes-left};
-use crate::digits::digit;
-use crate::digits::digit_char;
-use crate::digits::read_digits;
-use bytes::put;
+use crate::digit;
+use crate::digit_char;
+use crate::read_digits;
+use bytes::buffer::put;
 
 // The number that one to sixteen digits write; none if it is no such text.
 pub fn read_hex(text: &[u8]) -> Option<u64>

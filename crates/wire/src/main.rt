@@ -1,21 +1,15 @@
 // The bench tool of whoever brings up a bus: a request on each line of standard input, and its answer behind it.
-use crate::answer::ROOM;
-use crate::request_line::RequestLine;
+use requests::LONGEST;
+use requests::ROOM;
+use requests::answer;
 use std::io;
 use std::io::BufWriter;
 use std::io::Read;
 use std::io::Write;
 
-mod answer;
-mod fields;
-mod kind;
-mod request_line;
-mod sent;
-mod shown;
-
 // Prints a line and its answer.
-fn print_answer<W: Write>(output: &mut W, line: &RequestLine, out: &mut [u8]) -> io::Result<()> {
-    if let Ok(size) = answer::answer(line.bytes(), out) {
+fn print_answer<W: Write>(output: &mut W, line: &[u8], out: &mut [u8]) -> io::Result<()> {
+    if let Ok(size) = answer(line, out) {
         if size <= out.len() {
             output.write_all(&out[0..size])?;
             output.write_all(b"\n")?;
@@ -28,26 +22,27 @@ fn main(rt: LibcRuntime) -> io::Result<()> {
     let mut input = rt.stdin();
     let mut output = BufWriter::new(rt.stdout());
     let mut chunk = vec![in rt.alloc(); 0u8; 4096]?;
+    // One byte more than is answered, so that a longer line is known.
+    let mut line = Vec::with_capacity(rt.alloc(), LONGEST + 1)?;
     let mut out = vec![in rt.alloc(); 0u8; ROOM]?;
-    let mut line = RequestLine::new();
     let mut begun = false;
     for _ in 0..u64::MAX {
-        let size = input.read(chunk.as_mut_slice())?;
-        if size == 0 {
+        let read = input.read(chunk.as_mut_slice())?;
+        if read == 0 {
             break;
         }
-        for b in chunk.iter().take(size) {
+        for b in chunk.iter().take(read) {
             begun = *b != b'\n';
-            if begun {
-                line.push(*b);
-            } else {
-                print_answer(&mut output, &line, out.as_mut_slice())?;
+            if !begun {
+                print_answer(&mut output, line.as_slice(), out.as_mut_slice())?;
                 line.clear();
+            } else if line.len() <= LONGEST {
+                line.push(*b)?;
             }
         }
     }
     if begun {
-        print_answer(&mut output, &line, out.as_mut_slice())?;
+        print_answer(&mut output, line.as_slice(), out.as_mut_slice())?;
     }
     output.flush()
 }

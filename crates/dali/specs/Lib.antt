@@ -1,0 +1,4 @@
+pub mod Codes
+pub mod Frame
+pub mod Search
+pub mod ShortAddress

@@ -1,0 +1,2 @@
+pub mod QuestionsReadBack
+pub mod RepliesReadBack

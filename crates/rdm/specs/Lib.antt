@@ -1,0 +1,4 @@
+pub mod Question
+pub mod ReadReply
+pub mod Received
+pub mod Reply

@@ -1,0 +1,4 @@
+pub mod Answer
+pub mod Kind
+pub mod Room
+pub mod Writing

@@ -1,5 +1,0 @@
-pub mod Answers
-pub mod Frames
-pub mod Sizes
-pub mod Spaces
-pub mod Texts
