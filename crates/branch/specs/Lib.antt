@@ -1,1 +1,2 @@
 pub mod BranchReply
+pub mod Overlaid
