@@ -10,8 +10,8 @@ ghost use Rattle.keys.specs.Uid.{uid-number};
 ghost use Rattle.bytes.specs.Bytes.{two-bytes, six-bytes};
 ghost use Rattle.branch.specs.BranchReply.{pairs-of, branch-reply, behind, behind-lead, pair-set, bits-set, carried, sum-carried, body-read, branch-read, key-number};
 ghost use Rattle.bytes.specs.Writers.{answered, left-in};
-use bytes::checksum::checksum;
 use bytes::buffer::put;
+use bytes::checksum::checksum;
 use keys::uid::Uid;
 use refusals::Refusal;
 

@@ -27,7 +27,7 @@ found-weaker (Some x) P Q weaker p = weaker x p
 found-weaker None P Q weaker p = tt
 
 then-found : {X Y : Type 0} (o : Option X) (f : X → Option Y) (P : X → Type 0) (Q : Y → Type 0)
-  → found o P → ((x : X) → P x → found (f x) Q) → found (and-then o f) Q
+    → found o P → ((x : X) → P x → found (f x) Q) → found (and-then o f) Q
 then-found (Some x) f P Q p later = later x p
 then-found None f P Q p later = tt
 
@@ -56,7 +56,7 @@ last-short n line =
     (λ f h. found-weaker (bytes-in f) (λ bytes. 2 * length bytes ≤ length f) (λ bytes. 2 * length bytes ≤ length line) (λ bytes k. omega arith) (bytes-short f))
 
 fits : (o : Option (List ℕ)) (size : ℕ) (buf : List ℕ) → found o (λ bytes. 2 * length bytes ≤ size) → size ≤ 2 * length buf
-  → (bytes-read o buf ≡ mapped length o) × (bytes-left o buf ≡ bytes-begun o buf)
+    → (bytes-read o buf ≡ mapped length o) × (bytes-left o buf ≡ bytes-begun o buf)
 fits (Some bytes) size buf short room =
     let no-more = le-ltb (length buf) (length bytes) (omega arith) in
     (rw no-more, rw no-more)
@@ -64,14 +64,14 @@ fits None size buf short room = (refl, refl)
 
 -- So a buffer of half the size serves.
 pub last-fits : (n : ℕ) (line buf : List ℕ) → length line ≤ 2 * length buf
-  → (bytes-read (last-bytes n line) buf ≡ mapped length (last-bytes n line)) × (bytes-left (last-bytes n line) buf ≡ bytes-begun (last-bytes n line) buf)
+    → (bytes-read (last-bytes n line) buf ≡ mapped length (last-bytes n line)) × (bytes-left (last-bytes n line) buf ≡ bytes-begun (last-bytes n line) buf)
 last-fits n line buf room = fits (last-bytes n line) (length line) buf (last-short n line) room
 
 -- And what was read is at its beginning.
 pub read-bytes : (o : Option (List ℕ)) (r : Option ℕ) (size : ℕ) (buf after : List ℕ) → found o (λ bytes. 2 * length bytes ≤ size) → size ≤ 2 * length buf
-  → r ≡ mapped length o
-  → after ≡ bytes-begun o buf
-  → Bytes-at o r after
+    → r ≡ mapped length o
+    → after ≡ bytes-begun o buf
+    → Bytes-at o r after
 read-bytes (Some bytes) r size buf after short room answer left =
     rw (answer, left) (simp (length-append, length-drop) (omega arith), ap Some (sym (take-begun buf bytes (length bytes) refl)))
 read-bytes None r size buf after short room answer left = rw answer refl

@@ -12,9 +12,9 @@ ghost use Rattle.dali.specs.Frame.{frame-bytes};
 ghost use Rattle.rdm.specs.ReadReply.{reply-at};
 ghost use Rattle.dali.specs.Search.{search-bytes};
 ghost use Rattle.bytes.specs.Writers.{answered, left-in};
-use outgoing::Outgoing;
-use dali::frame::Frame;
 use branch::read_branch_reply;
+use dali::frame::Frame;
+use outgoing::Outgoing;
 use rdm::read_reply::Expected;
 use rdm::read_reply::read_reply;
 use refusals::Refusal;
@@ -41,7 +41,11 @@ pub extern "C" fn rdm_write_branch(transaction: u8, lo: u64, hi: u64, buf: &mut 
     ensures answer { λ r. ⌜ r ≡ coded (answered (branch-refusal lo hi) (branch-frame transaction lo hi) (now (buf .entry))) ⌝ }
     ensures after { λ _. ⌜ now (buf .exit) ≡ left-in (branch-refusal lo hi) (branch-frame transaction lo hi) (now (buf .entry)) ⌝ }
 {
-    code(Outgoing::Branch { transaction, lo, hi }.write(buf))
+    code(Outgoing::Branch {
+        transaction,
+        lo,
+        hi,
+    }.write(buf))
 }
 
 // The length of the mute question, 26; FFFFFFFFFFFF is to all. Refusals 1, 4.
@@ -82,7 +86,11 @@ pub extern "C" fn rdm_write_start_address(
     ensures answer { λ r. ⌜ r ≡ coded (answered (start-refusal key slot) (start-frame transaction key slot) (now (buf .entry))) ⌝ }
     ensures after { λ _. ⌜ now (buf .exit) ≡ left-in (start-refusal key slot) (start-frame transaction key slot) (now (buf .entry)) ⌝ }
 {
-    code(Outgoing::StartAddress { transaction, key, slot }.write(buf))
+    code(Outgoing::StartAddress {
+        transaction,
+        key,
+        slot,
+    }.write(buf))
 }
 
 // 0 for a yes, 2 for a no; refusals 5, 6, 8, 9. Class, parameter ID, transaction number and key are the question's.

@@ -20,14 +20,37 @@ use refusals::Refusal;
 // A key is the number that stands for it on the wire; `to` may also be FFFFFFFFFFFF, for all.
 #[derive(Clone, Copy)]
 pub enum Outgoing {
-    Branch { transaction: u8, lo: u64, hi: u64 },
-    Mute { transaction: u8, to: u64 },
-    UnMute { transaction: u8, to: u64 },
-    DeviceInfo { transaction: u8, key: u64 },
-    StartAddress { transaction: u8, key: u64, slot: u32 },
-    BranchReply { key: u64 },
-    Search { key: u64 },
-    Program { slot: u32 },
+    Branch {
+        transaction: u8,
+        lo: u64,
+        hi: u64,
+    },
+    Mute {
+        transaction: u8,
+        to: u64,
+    },
+    UnMute {
+        transaction: u8,
+        to: u64,
+    },
+    DeviceInfo {
+        transaction: u8,
+        key: u64,
+    },
+    StartAddress {
+        transaction: u8,
+        key: u64,
+        slot: u32,
+    },
+    BranchReply {
+        key: u64,
+    },
+    Search {
+        key: u64,
+    },
+    Program {
+        slot: u32,
+    },
 }
 
 impl Outgoing {
@@ -38,11 +61,19 @@ impl Outgoing {
         ensures after { λ _. ⌜ now (buf .exit) ≡ left-in (outgoing-refusal self) (outgoing-frame self) (now (buf .entry)) ⌝ }
     {
         match self {
-            Outgoing::Branch { transaction, lo, hi } => write_branch(transaction, lo, hi, buf),
+            Outgoing::Branch {
+                transaction,
+                lo,
+                hi,
+            } => write_branch(transaction, lo, hi, buf),
             Outgoing::Mute { transaction, to } => write_mute(transaction, to, buf),
             Outgoing::UnMute { transaction, to } => write_un_mute(transaction, to, buf),
             Outgoing::DeviceInfo { transaction, key } => write_device_info(transaction, key, buf),
-            Outgoing::StartAddress { transaction, key, slot } => write_start_address(transaction, key, slot, buf),
+            Outgoing::StartAddress {
+                transaction,
+                key,
+                slot,
+            } => write_start_address(transaction, key, slot, buf),
             Outgoing::BranchReply { key } => write_branch_reply(key, buf),
             Outgoing::Search { key } => write_search(key, buf),
             Outgoing::Program { slot } => write_program(slot, buf),

@@ -8,10 +8,10 @@ ghost use Rattle.std.specs.declared.option.Option.the-variants.{None};
 ghost use Rattle.packets.specs.Opened.{starts, sized, summed, header-at, payload-at, opened, held};
 ghost use Rattle.packets.specs.Packet.{packet-of, header-bytes};
 ghost use Rattle.bytes.specs.Writers.{answered, left-in};
+use bytes::buffer::put;
 use bytes::checksum::checksum;
 use bytes::numbers::six_at;
 use bytes::numbers::two_at;
-use bytes::buffer::put;
 use refusals::Refusal;
 
 // What stands in a packet besides its data. Unique identifiers are the 48-bit numbers that stand for them.

@@ -7,15 +7,15 @@ ghost use Rattle.keys.specs.Uid.{uid-number};
 ghost use Rattle.rdm.specs.Question.{destination-number, parameter-of, destination-of, header-of, ends-bytes, question-refusal, question-frame, heard};
 ghost use Rattle.rdm.specs.Received.{question-at};
 ghost use Rattle.bytes.specs.Writers.{answered, left-in};
-use packets::packet::Header;
-use packets::packet::write_packet;
-use packets::parameter::Parameter;
 use keys::address::Address;
 use keys::address::is_in_family;
 use keys::range::Range;
 use keys::uid::Uid;
 use keys::uid::family::UidFamily;
 use keys::uid::number::BROADCAST;
+use packets::packet::Header;
+use packets::packet::write_packet;
+use packets::parameter::Parameter;
 use refusals::Refusal;
 
 // The unique identifier of the box.

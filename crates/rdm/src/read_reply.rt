@@ -5,16 +5,16 @@ ghost use lib.ListN.{length};
 ghost use Rattle.std.specs.Vec.{made};
 ghost use Rattle.std.specs.declared.result.Result.the-variants.{Ok};
 ghost use Rattle.rdm.specs.ReadReply.{expects, response-at, matches, reply-in, reply-at, reply-held, info-at};
+use crate::question::CONTROLLER;
+use crate::reply::DeviceInfo;
+use crate::reply::Response;
 use bytes::numbers::two_at;
+use keys::address::Address;
+use keys::uid::Uid;
 use packets::packet::Header;
 use packets::packet::Packet;
 use packets::packet::read_packet;
 use packets::parameter::Parameter;
-use crate::question::CONTROLLER;
-use crate::reply::DeviceInfo;
-use crate::reply::Response;
-use keys::address::Address;
-use keys::uid::Uid;
 use refusals::Refusal;
 
 // The question's class, parameter ID and transaction number, and the number of the key that was asked. They may come

@@ -3,9 +3,9 @@ ghost use mathlib.Core.Path.{_≡_};
 ghost use Rattle.rdm.specs.Received.{asked-of, question-at};
 use bytes::numbers::six_at;
 use bytes::numbers::two_at;
+use keys::address::Address;
 use packets::packet::read_packet;
 use packets::parameter::Parameter;
-use keys::address::Address;
 
 // What is asked. The ends of a branch are 48-bit numbers of any value, and an address is any two bytes.
 #[derive(Clone, Copy)]

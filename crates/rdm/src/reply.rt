@@ -9,11 +9,11 @@ ghost use Rattle.std.specs.declared.result.Result.the-variants.{Ok};
 ghost use Rattle.rdm.specs.ReadReply.{reply-at, expected-by, info-at};
 ghost use Rattle.rdm.specs.Reply.{reply-parameter, response-of, response-code, reason-code, reply-header, info-bytes, slot-told, reply-payload, reply-frame};
 ghost use Rattle.bytes.specs.Writers.{answered, left-in};
+use crate::received::Received;
+use keys::address::Address;
 use packets::packet::Header;
 use packets::packet::write_packet;
 use packets::parameter::Parameter;
-use crate::received::Received;
-use keys::address::Address;
 use refusals::Refusal;
 
 // Byte 16 of a reply.

@@ -15,14 +15,14 @@ use Rattle.bytes.proofs.Buffers.{Puts}
 use Rattle.requests.specs.Answer.{text-end, with-text, or-unread, answer-text, answer-line}
 
 pub some-answer : (o : Option (List ℕ)) (at end : ℕ) (out after : List ℕ) → Some end ≡ text-end at o → after ≡ with-text out at o
-  → Puts out at (or-unread o) end after
+    → Puts out at (or-unread o) end after
 some-answer (Some text) at end out after e left = (cc, left)
 some-answer None at end out after e left = absurd (let z : _≡_ {A = ℕ} 0 1 = cc in omega arith)
 
 -- Nothing was put, and then a question mark.
 pub no-answer : (o : Option (List ℕ)) (at end : ℕ) (out same after : List ℕ) → None ≡ text-end at o → same ≡ with-text out at o
-  → Puts same at (codes "?") end after
-  → Puts out at (or-unread o) end after
+    → Puts same at (codes "?") end after
+    → Puts out at (or-unread o) end after
 no-answer (Some text) at end out same after e left put = absurd (let z : _≡_ {A = ℕ} 0 1 = cc in omega arith)
 no-answer None at end out same after e left (is, put) = (is, put ∙ ap (λ b. put-at b at (codes "?")) left)
 

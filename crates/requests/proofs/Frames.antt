@@ -39,7 +39,7 @@ frame-short (Program slot) = omega arith
 
 -- So 64 bytes serve as well as more.
 pub same-room : (refusal : Option Refusal) (frame buf : List ℕ) (room : ℕ) → length frame ≤ 64 → length buf ≡ min room 64
-  → answered refusal frame buf ≡ answered-in refusal frame room
+    → answered refusal frame buf ≡ answered-in refusal frame room
 same-room (Some refusal) frame buf room short size = refl
 same-room None frame buf room short size = grind (arith, tells)
 
@@ -50,7 +50,7 @@ module _ (frame part rest : List ℕ) (short : length frame ≤ 64) where
   at-beginning None = by-room (ltb (length part) (length frame))
     where
       by-room : (full : Bool)
-        → made (cond full (Err BufferTooShort) (Ok (length frame)))
+          → made (cond full (Err BufferTooShort) (Ok (length frame)))
           (λ n. (n ≤ 64) × (take n (cond full part (begun part frame) ++ rest) ≡ frame))
       by-room true = tt
       by-room false =
@@ -58,7 +58,7 @@ module _ (frame part rest : List ℕ) (short : length frame ≤ 64) where
           (short, ap (take (length frame)) (append-assoc frame behind rest) ∙ take-at frame (behind ++ rest) (length frame) refl)
 
   pub frame-read : (refusal : Option Refusal) (r : Result ℕ Refusal) (after : List ℕ)
-    → r ≡ answered refusal frame part
-    → after ≡ left-in refusal frame part ++ rest
-    → made r (λ n. (n ≤ 64) × (take n after ≡ frame))
+      → r ≡ answered refusal frame part
+      → after ≡ left-in refusal frame part ++ rest
+      → made r (λ n. (n ≤ 64) × (take n after ≡ frame))
   frame-read refusal r after answer left = rw (answer, left) (at-beginning refusal)

@@ -6,11 +6,11 @@ ghost use Rattle.std.specs.Vec.{made};
 ghost use Rattle.outgoing.specs.Outgoing.{outgoing-refusal, outgoing-frame};
 ghost use Rattle.requests.specs.Room.{answered-in};
 ghost use Rattle.requests.specs.Writing.{outgoing-at, room-place, writing-at};
+use crate::kind::Kind;
 use fields::byte_field;
 use fields::decimal_field;
 use fields::hex_field;
 use fields::last_decimal;
-use crate::kind::Kind;
 use outgoing::Outgoing;
 use refusals::Refusal;
 
@@ -83,7 +83,6 @@ fn read_frame(kind: Kind, line: &[u8]) -> Option<Outgoing>
         Kind::Reply | Kind::ReadBranch => None,
     }
 }
-
 
 // Which field has the size of the buffer.
 fn room_place(kind: Kind) -> usize

@@ -7,8 +7,11 @@ use Rattle.figures.proofs.figures.Needs as need
 pub returns : need.returns
 unfolding branch-reply branch-read sum-carried packet-of ends-bytes
 returns c = record {
-  branch-reply-of-first-key = refl;
-  checksum-of-first-branch = refl;
-  read-under-or = refl;
-  read-under-and = refl;
+  count = refl;
+  figures = record {
+    branch-reply-of-first-key = refl;
+    checksum-of-first-branch = refl;
+    read-under-or = refl;
+    read-under-and = refl;
+  };
 }

@@ -22,17 +22,17 @@ returns c =
     let line = c .args .line .now in
     let text = sym (short-line line (c .if-line-gt-LONGEST .left)) in
     let back =
-          puts-more (c .put-sign .last .buf) (codes " = ") (answer-text line) (c .put-text .last .buf) (c .put-answer .last .out) (c .put-sign .result)
-            (c .put-text .result)
-            (c .put-answer .result)
-            (omega arith)
-            (c .put-text .ensures .end, c .put-text .ensures .after)
-            (c .put-answer .ensures .end, c .put-answer .ensures .after) in
+    puts-more (c .put-sign .last .buf) (codes " = ") (answer-text line) (c .put-text .last .buf) (c .put-answer .last .out) (c .put-sign .result)
+    (c .put-text .result)
+    (c .put-answer .result)
+    (omega arith)
+    (c .put-text .ensures .end, c .put-text .ensures .after)
+    (c .put-answer .ensures .end, c .put-answer .ensures .after) in
     let all =
-          puts-more (c .args .out .now) line (codes " = " ++ answer-text line) (c .put-sign .last .buf) (c .put-answer .last .out) 0 (c .put-sign .result)
-            (c .put-answer .result)
-            (omega arith)
-            (c .put-sign .ensures .end, c .put-sign .ensures .after)
-            back in
+    puts-more (c .args .out .now) line (codes " = " ++ answer-text line) (c .put-sign .last .buf) (c .put-answer .last .out) 0 (c .put-sign .result)
+    (c .put-answer .result)
+    (omega arith)
+    (c .put-sign .ensures .end, c .put-sign .ensures .after)
+    back in
     let done = puts-begun (c .args .out .now) (line ++ (codes " = " ++ answer-text line)) (c .put-answer .last .out) (c .put-answer .result) all in
     record { end = done .0 ∙ ap length text; after = done .1 ∙ ap (begun (c .args .out .now)) text }

@@ -28,29 +28,29 @@ returns c =
     let word-short = response-short response in
     let number-short = place-short place (c .pre .place) in
     let last =
-          puts-more (c .put-decimal-place .last .buf) (codes " ") (bytes-text payload) (c .put-space .last .buf) (c .put-bytes .last .out)
-            (c .put-decimal-place .result)
-            (c .put-space .result)
-            (c .put-bytes .result)
-            (omega arith)
-            (c .put-space .ensures .end, c .put-space .ensures .after)
-            (c .put-bytes .ensures .end, c .put-bytes .ensures .after) in
+    puts-more (c .put-decimal-place .last .buf) (codes " ") (bytes-text payload) (c .put-space .last .buf) (c .put-bytes .last .out)
+    (c .put-decimal-place .result)
+    (c .put-space .result)
+    (c .put-bytes .result)
+    (omega arith)
+    (c .put-space .ensures .end, c .put-space .ensures .after)
+    (c .put-bytes .ensures .end, c .put-bytes .ensures .after) in
     let back =
-          puts-more (c .put-response-word .last .out) (decimal place) (codes " " ++ bytes-text payload) (c .put-decimal-place .last .buf)
-            (c .put-bytes .last .out)
-            (c .put-response-word .result)
-            (c .put-decimal-place .result)
-            (c .put-bytes .result)
-            (omega arith)
-            (c .put-decimal-place .ensures .end, c .put-decimal-place .ensures .after)
-            last in
+    puts-more (c .put-response-word .last .out) (decimal place) (codes " " ++ bytes-text payload) (c .put-decimal-place .last .buf)
+    (c .put-bytes .last .out)
+    (c .put-response-word .result)
+    (c .put-decimal-place .result)
+    (c .put-bytes .result)
+    (omega arith)
+    (c .put-decimal-place .ensures .end, c .put-decimal-place .ensures .after)
+    last in
     let all =
-          puts-more (c .args .out .now) (response-text response) (decimal place ++ (codes " " ++ bytes-text payload)) (c .put-response-word .last .out)
-            (c .put-bytes .last .out)
-            (c .args .at)
-            (c .put-response-word .result)
-            (c .put-bytes .result)
-            (omega arith)
-            (c .put-response-word .ensures .end, c .put-response-word .ensures .after)
-            back in
+    puts-more (c .args .out .now) (response-text response) (decimal place ++ (codes " " ++ bytes-text payload)) (c .put-response-word .last .out)
+    (c .put-bytes .last .out)
+    (c .args .at)
+    (c .put-response-word .result)
+    (c .put-bytes .result)
+    (omega arith)
+    (c .put-response-word .ensures .end, c .put-response-word .ensures .after)
+    back in
     record { end = all .0; after = all .1 }

@@ -22,12 +22,13 @@ unfolding refusal-text
 returns c =
     let text = ap decimal (c .number .ensures) in
     let done =
-          puts-more (c .args .out .now) (codes "! ") (decimal (number-of (c .args .refusal))) (c .put-end .last .buf) (c .put-decimal .last .buf)
-            (c .args .at)
-            (c .put-end .result)
-            (c .put-decimal .result)
-            (omega arith)
-            (c .put-end .ensures .end, c .put-end .ensures .after)
-            (c .put-decimal .ensures .end ∙ ap (λ t. c .put-end .result + length t) text,
-              c .put-decimal .ensures .after ∙ ap (put-at (c .put-end .last .buf) (c .put-end .result)) text) in
+    puts-more (c .args .out .now) (codes "! ") (decimal (number-of (c .args .refusal))) (c .put-end .last .buf) (c .put-decimal .last .buf)
+    (c .args .at)
+    (c .put-end .result)
+    (c .put-decimal .result)
+    (omega arith)
+    (c .put-end .ensures .end, c .put-end .ensures .after) (
+      c .put-decimal .ensures .end ∙ ap (λ t. c .put-end .result + length t) text,
+      c .put-decimal .ensures .after ∙ ap (put-at (c .put-end .last .buf) (c .put-end .result)) text,
+    ) in
     record { end = done .0; after = done .1 }

@@ -14,9 +14,9 @@ returns-in-Ok c =
     let frame = outgoing-frame (c .args .writing .frame) in
     let read = c .in-Ok .ensures tt in
     let all : take (c .in-Ok .n - 0) (c .write .last .buf) ≡ frame =
-          ap (λ n. take n (c .write .last .buf)) (sub-zero (c .in-Ok .n)) ∙ read .frame .1 in
+    ap (λ n. take n (c .write .last .buf)) (sub-zero (c .in-Ok .n)) ∙ read .frame .1 in
     let text : hex-text (take (c .in-Ok .n - 0) (c .write .last .buf)) ≡ writing-text (c .args .writing) =
-          ap hex-text all ∙ ap (λ r. frame-text r frame) (read .answer) in
+    ap hex-text all ∙ ap (λ r. frame-text r frame) (read .answer) in
     record {
       end = c .put-hex .ensures .end ∙ ap (λ n. c .args .at + n) (sym (length-hex _) ∙ ap length text);
       after = c .put-hex .ensures .after ∙ ap (put-at (c .args .out .now) (c .args .at)) text;

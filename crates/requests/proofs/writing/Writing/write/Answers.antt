@@ -15,9 +15,9 @@ returns c =
     let rest = postOf 0 (c .min-end .result - 0) (c .args .buf .now) in
     record {
       answer =
-        c .write .ensures .answer
-        ∙ same-room (outgoing-refusal frame) (outgoing-frame frame) _ (c .args .self .room) short (simp length-take (omega arith));
+          c .write .ensures .answer
+          ∙ same-room (outgoing-refusal frame) (outgoing-frame frame) _ (c .args .self .room) short (simp length-take (omega arith));
       frame =
-        frame-read (outgoing-frame frame) _ rest short (outgoing-refusal frame) _ _ (c .write .ensures .answer)
-        (ap (λ part. part ++ rest) (c .write .ensures .after));
+          frame-read (outgoing-frame frame) _ rest short (outgoing-refusal frame) _ _ (c .write .ensures .answer)
+          (ap (λ part. part ++ rest) (c .write .ensures .after));
     }
