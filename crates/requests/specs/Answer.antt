@@ -1,38 +1,30 @@
 -- The answers, as text.
 use mathlib.Core.Bool.{cond}
-use mathlib.Core.List.{List, [], _∷_, _++_}
+use mathlib.Core.List.{List, _++_}
 use Prim.Native.Nat.{ℕ, _+_}
 use lib.Chars.{codes}
 use lib.Dec.{ltb}
 use lib.ListN.{length}
-use Rattle.std.specs.Written.{decimal}
 use Rattle.std.specs.declared.option.Option.{Option}
 use Rattle.std.specs.declared.option.Option.the-variants.{Some, None}
 use Rattle.std.specs.declared.result.Result.{Result}
 use Rattle.std.specs.declared.result.Result.the-variants.{Ok, Err}
 use Rattle.bytes.specs.Buffer.{put-at}
-use Rattle.refusals.specs.Numbers.{number-of}
 use Rattle.refusals.specs.declared.Refusal.{Refusal}
 use Rattle.branch.specs.BranchReply.{branch-read}
-use Rattle.bytes.specs.Bytes.{six-bytes}
-use Rattle.rdm.specs.ReadReply.{Data-of-reply, reply-at}
+use Rattle.rdm.specs.ReadReply.{reply-at}
 use Rattle.rdm.specs.declared.read_reply.Expected.{Expected}
-use Rattle.rdm.specs.declared.reply.Response.{Response}
-use Rattle.rdm.specs.declared.reply.Response.the-variants.{Ack, Nack}
 use Rattle.text.specs.Digits.{and-then}
 use Rattle.text.specs.Hexadecimal.{hex-text}
 use Rattle.fields.specs.Fields.{field-at, byte-field, two-byte-field, hex-field, last-bytes}
 use Rattle.outgoing.specs.Outgoing.{outgoing-refusal, outgoing-frame}
+use Rattle.shown.specs.Shown.{refusal-text, key-text, reply-text}
 use Rattle.requests.specs.Kind.{kind-of}
 use Rattle.requests.specs.Room.{answered-in}
 use Rattle.requests.specs.Writing.{writing-at}
 use Rattle.requests.specs.declared.kind.Kind.{Kind}
 use Rattle.requests.specs.declared.kind.Kind.the-variants as kind
 use Rattle.requests.specs.declared.writing.Writing.{Writing}
-
--- ! N
-unfoldable pub refusal-text : Refusal → List ℕ
-refusal-text refusal = codes "! " ++ decimal (number-of refusal)
 
 -- The frame that was written, or its refusal.
 abbrev pub frame-text : Result ℕ Refusal → List ℕ → List ℕ
@@ -42,29 +34,6 @@ frame-text (Err refusal) frame = refusal-text refusal
 abbrev pub writing-text : Writing → List ℕ
 writing-text w =
     frame-text (answered-in (outgoing-refusal (w .frame)) (outgoing-frame (w .frame)) (w .room)) (outgoing-frame (w .frame))
-
--- Bytes, or - for none.
-abbrev pub bytes-text : List ℕ → List ℕ
-bytes-text [] = codes "-"
-bytes-text (b ∷ bytes) = hex-text (b ∷ bytes)
-
-abbrev pub response-text : Response → List ℕ
-response-text Ack = codes "yes "
-response-text Nack = codes "no "
-
--- yes PLACE DATA, no PLACE REASON.
-unfoldable pub read-reply-text : Response → ℕ → List ℕ → List ℕ
-read-reply-text response place payload = response-text response ++ (decimal place ++ (codes " " ++ bytes-text payload))
-
--- The same, or the refusal.
-abbrev pub reply-text : Result Data-of-reply Refusal → List ℕ
-reply-text (Ok (response, place, payload)) = read-reply-text response place payload
-reply-text (Err refusal) = refusal-text refusal
-
--- The key, or the refusal.
-abbrev pub key-text : Result ℕ Refusal → List ℕ
-key-text (Ok n) = hex-text (six-bytes n)
-key-text (Err refusal) = refusal-text refusal
 
 -- CLASS PID TN KEY
 abbrev pub expected-at : List ℕ → Option Expected

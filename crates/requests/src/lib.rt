@@ -7,11 +7,8 @@ ghost use lib.ListN.{length};
 ghost use Rattle.std.specs.declared.result.Result.the-variants.{Ok, Err};
 ghost use Rattle.bytes.specs.Buffer.{put-at, begun};
 ghost use Rattle.refusals.specs.declared.Refusal.the-variants.{BufferTooShort};
-ghost use Rattle.requests.specs.Answer.{expected-at, reply-answer, branch-answer, writing-answer, known-answer, answer-text, answer-line, text-end, with-text};
+ghost use Rattle.requests.specs.Answer.{writing-text, expected-at, reply-answer, branch-answer, writing-answer, known-answer, answer-text, answer-line, text-end, with-text};
 use crate::kind::Kind;
-use crate::shown::put_key;
-use crate::shown::put_reply;
-use crate::shown::put_writing;
 use crate::writing::Writing;
 use branch::read_branch_reply;
 use bytes::buffer::put;
@@ -23,9 +20,12 @@ use fields::two_byte_field;
 use rdm::read_reply::Expected;
 use rdm::read_reply::read_reply;
 use refusals::Refusal;
+use shown::put_key;
+use shown::put_refusal;
+use shown::put_reply;
+use text::hexadecimal::put_hex;
 
 mod kind;
-mod shown;
 mod writing;
 
 // CLASS PID TN KEY
@@ -61,6 +61,19 @@ fn answer_branch(line: &[u8], out: &mut [u8], at: usize) -> Option<usize>
     let mut bytes = [0u8; 1024];
     let size = last_bytes(1, line, &mut bytes)?;
     Some(put_key(out, at, read_branch_reply(&bytes[0..size])))
+}
+
+// The frame that was written, or its refusal.
+fn put_writing(out: &mut [u8], at: usize, writing: Writing) -> usize
+    requires { ⌜ at + 128 ≤ length (now out) ⌝ }
+    ensures end { λ r. ⌜ r ≡ at + length (writing-text writing) ⌝ }
+    ensures after { λ _. ⌜ now (out .exit) ≡ put-at (now (out .entry)) at (writing-text writing) ⌝ }
+{
+    let mut buf = [0u8; 64];
+    match writing.write(&mut buf) {
+        Ok(n) => put_hex(out, at, &buf[0..n]),
+        Err(refusal) => put_refusal(out, at, refusal),
+    }
 }
 
 fn answer_writing(kind: Kind, line: &[u8], out: &mut [u8], at: usize) -> Option<usize>

@@ -1,4 +1,4 @@
-// The answers, as text in a buffer from a place on. Each answers the place behind it.
+// Refusals, bytes, keys and replies as text, in a buffer from a place on. Each function answers the place behind it.
 ghost use mathlib.Core.Path.{_≡_};
 ghost use Prim.Native.Nat.{_+_, _*_, _≤_};
 ghost use lib.ListN.{length};
@@ -6,8 +6,7 @@ ghost use Rattle.std.specs.Vec.{made};
 ghost use Rattle.bytes.specs.Buffer.{put-at};
 ghost use Rattle.branch.specs.BranchReply.{key-number};
 ghost use Rattle.rdm.specs.ReadReply.{reply-held};
-ghost use Rattle.requests.specs.Answer.{refusal-text, bytes-text, writing-text, key-text, read-reply-text, reply-text, response-text};
-use crate::writing::Writing;
+ghost use Rattle.shown.specs.Shown.{refusal-text, bytes-text, key-text, read-reply-text, reply-text, response-text};
 use bytes::buffer::put;
 use keys::uid::Uid;
 use rdm::read_reply::ReadReply;
@@ -36,19 +35,6 @@ pub fn put_bytes(out: &mut [u8], at: usize, bytes: &[u8]) -> usize
         return put(out, at, b"-");
     }
     put_hex(out, at, bytes)
-}
-
-// The frame that was written, or its refusal.
-pub fn put_writing(out: &mut [u8], at: usize, writing: Writing) -> usize
-    requires { ⌜ at + 128 ≤ length (now out) ⌝ }
-    ensures end { λ r. ⌜ r ≡ at + length (writing-text writing) ⌝ }
-    ensures after { λ _. ⌜ now (out .exit) ≡ put-at (now (out .entry)) at (writing-text writing) ⌝ }
-{
-    let mut buf = [0u8; 64];
-    match writing.write(&mut buf) {
-        Ok(n) => put_hex(out, at, &buf[0..n]),
-        Err(refusal) => put_refusal(out, at, refusal),
-    }
 }
 
 // The key, or the refusal.

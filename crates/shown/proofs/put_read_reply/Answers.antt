@@ -3,9 +3,9 @@ use native.Mathlib.Omega.{arith}
 use lib.Chars.{codes}
 use Rattle.std.specs.Written.{decimal}
 use Rattle.bytes.proofs.Buffers.{puts-more}
-use Rattle.requests.specs.Answer.{read-reply-text, response-text, bytes-text}
-use Rattle.requests.proofs.Texts.{response-short, place-short}
-use Rattle.requests.proofs.shown.put_read_reply.Needs as need
+use Rattle.shown.specs.Shown.{read-reply-text, response-text, bytes-text}
+use Rattle.shown.proofs.Texts.{response-short, place-short}
+use Rattle.shown.proofs.put_read_reply.Needs as need
 
 pub put-decimal-place-requires : need.put-decimal-place-requires
 put-decimal-place-requires c κs =

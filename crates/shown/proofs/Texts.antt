@@ -12,7 +12,7 @@ use Rattle.refusals.specs.declared.Refusal.the-variants.{NotAKey, LowerAboveUpp
 use Rattle.rdm.specs.declared.reply.Response.{Response}
 use Rattle.rdm.specs.declared.reply.Response.the-variants.{Ack, Nack}
 use Rattle.text.specs.Hexadecimal.{hex-text}
-use Rattle.requests.specs.Answer.{refusal-text, bytes-text, response-text}
+use Rattle.shown.specs.Shown.{refusal-text, bytes-text, response-text}
 
 number-small : (r : Refusal) → number-of r < 26
 number-small NotAKey = omega arith

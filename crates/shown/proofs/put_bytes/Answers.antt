@@ -4,8 +4,8 @@ use lib.ListN.{length}
 use Rattle.std.proofs.shelf.Tests.{eqb-false}
 use Rattle.bytes.specs.Buffer.{put-at}
 use Rattle.text.proofs.HexText.{length-hex}
-use Rattle.requests.proofs.Texts.{some-bytes}
-use Rattle.requests.proofs.shown.put_bytes.Needs as need
+use Rattle.shown.proofs.Texts.{some-bytes}
+use Rattle.shown.proofs.put_bytes.Needs as need
 
 pub returns : need.returns
 returns c =

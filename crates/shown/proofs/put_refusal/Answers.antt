@@ -7,9 +7,9 @@ use Rattle.std.specs.Written.{decimal}
 use Rattle.bytes.specs.Buffer.{put-at}
 use Rattle.bytes.proofs.Buffers.{puts-more}
 use Rattle.refusals.specs.Numbers.{number-of}
-use Rattle.requests.specs.Answer.{refusal-text}
-use Rattle.requests.proofs.Texts.{number-short}
-use Rattle.requests.proofs.shown.put_refusal.Needs as need
+use Rattle.shown.specs.Shown.{refusal-text}
+use Rattle.shown.proofs.Texts.{number-short}
+use Rattle.shown.proofs.put_refusal.Needs as need
 
 pub put-decimal-requires : need.put-decimal-requires
 put-decimal-requires c κs =

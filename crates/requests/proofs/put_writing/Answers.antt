@@ -7,7 +7,7 @@ use Rattle.text.specs.Hexadecimal.{hex-text}
 use Rattle.text.proofs.HexText.{length-hex}
 use Rattle.requests.specs.Answer.{frame-text, writing-text}
 use Rattle.outgoing.specs.Outgoing.{outgoing-frame}
-use Rattle.requests.proofs.shown.put_writing.Needs as need
+use Rattle.requests.proofs.put_writing.Needs as need
 
 pub returns-in-Ok : need.returns-in-Ok
 returns-in-Ok c =
