@@ -1,4 +1,7 @@
 // Branch replies: the one message that has no packet around it, made so that replies which overlap are noticed.
+
+#![tactic(auto)]
+
 ghost use Rattle.std.specs.Prelude.{◌≡◌, ℕ, ◌≤◌, length, take, drop, IfOk, None, Ok};
 ghost use Rattle.std.specs.Option.{option_map};
 ghost use Rattle.keys.specs.Uid.{uid_number};
@@ -6,9 +9,9 @@ ghost use Rattle.octets.specs.Bytes.{two_bytes, six_bytes};
 ghost use Rattle.branch.specs.BranchReply.{pairs_of, branch_reply, behind, behind_lead, pair_set, bits_set, carried, sum_carried, body_read, branch_read, key_number};
 ghost use Rattle.octets.specs.Writers.{answered, left_in};
 
+use keys::uid::Uid;
 use octets::buffer::put;
 use octets::checksum::checksum;
-use keys::uid::Uid;
 use refusals::Refusal;
 
 // Seven bytes FE that a repeater may swallow, and AA, behind which the key begins.

@@ -5,8 +5,8 @@ ghost use Rattle.dali.specs.Search.{search_frames, search_bytes};
 ghost use Rattle.octets.specs.Writers.{answered, left_in};
 
 use crate::frame::Frame;
-use octets::buffer::write_bytes;
 use keys::random_address::RandomAddress;
+use octets::buffer::write_bytes;
 use refusals::Refusal;
 
 // High byte first.

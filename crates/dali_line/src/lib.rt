@@ -1,3 +1,6 @@
 // The DALI line: a table of units, to which everything is said by frames.
+
+#![tactic(auto)]
+
 mod controller;
 pub mod line;

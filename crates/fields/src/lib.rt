@@ -1,4 +1,7 @@
 // The fields of a line of text, with one space between them, counted from 0.
+
+#![tactic(auto)]
+
 ghost use Rattle.std.specs.Prelude.{◌≡◌, ◌*◌, ◌<◌, ◌≤◌, length};
 ghost use Rattle.std.specs.Option.{option_map};
 ghost use Rattle.text.specs.Hexadecimal.{bytes_read, bytes_left};

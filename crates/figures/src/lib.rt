@@ -1,4 +1,7 @@
 // Worked figures of every layer, proved of the definitions that the contracts are written by.
+
+#![tactic(auto)]
+
 ghost use Rattle.std.specs.Prelude.{◌≡◌};
 ghost use Rattle.figures.specs.Figures.{Figures};
 

@@ -1,5 +1,8 @@
 // The functions that firmware in C calls. A slice passes as a pointer and a length. Each answers one number: a length, a
 // key or a kind if it is not negative, and minus the number of the refusal if it is.
+
+#![tactic(auto)]
+
 ghost use Rattle.std.specs.Prelude.{◌≡◌, ◌^◌, ◌<◌, IfOk, None, Err};
 ghost use Rattle.branch.specs.BranchReply.{branch_reply, branch_read};
 ghost use Rattle.outgoing.specs.Numbers.{branch_refusal, branch_frame, destination_refusal, mute_frame, un_mute_frame, key_refusal, info_frame, start_refusal, start_frame, search_refusal, program_refusal, program_bytes};

@@ -26,3 +26,12 @@ with_rank n h = (record { value = n; narrow = omega arith }, refl)
 pub orders_agree : (x y : RandomAddress) → nat_lt (random_rank x) (random_rank y) ≡ nat_lt (random_number x) (random_number y)
 unfolding random_rank
 orders_agree x y = refl
+
+pub top_below_power : random_top < 2 ^ 24
+top_below_power = omega arith
+
+pub levels_in_bounds : (1 ≤ 24) × (24 ≤ 48)
+levels_in_bounds = (omega arith, omega arith)
+
+pub addresses_in_bounds : (0 ≤ 512) × (64 ≤ 512)
+addresses_in_bounds = (omega arith, omega arith)

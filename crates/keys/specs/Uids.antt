@@ -41,3 +41,12 @@ with_rank n h = (
 pub orders_agree : (x y : Uid) → nat_lt (uid_rank x) (uid_rank y) ≡ nat_lt (uid_number x) (uid_number y)
 unfolding uid_rank
 orders_agree x y = refl
+
+pub top_below_power : uid_top < 2 ^ 48
+top_below_power = omega arith
+
+pub levels_in_bounds : (1 ≤ 48) × (48 ≤ 48)
+levels_in_bounds = (omega arith, omega arith)
+
+pub addresses_in_bounds : (1 ≤ 512) × (512 ≤ 512)
+addresses_in_bounds = (omega arith, omega arith)

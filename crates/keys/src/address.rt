@@ -11,7 +11,7 @@ pub struct Address {
 
 // Whether an address is one of a family's.
 pub fn is_in_family<K: Family>(address: Address) -> bool
-    ensures { result ≡ in_family first count address }
+    ensures { result ≡ in_family K.first K.count address }
 {
     let first = K::first_address();
     first <= address.slot && address.slot - first < K::address_count()

@@ -1,4 +1,7 @@
 // Families of keys: what a search looks for, and how ranges of keys are halved.
+
+#![tactic(auto)]
+
 pub mod address;
 pub mod family;
 pub mod order;

@@ -5,7 +5,7 @@ ghost use Rattle.keys.specs.Family.{Next};
 use crate::family::Family;
 
 pub fn lowest<K: Family>() -> K
-    ensures { rank result ≡ 0 }
+    ensures { K.rank result ≡ 0 }
 {
     match K::from_rank(0) {
         Some(key) => key,
@@ -14,7 +14,7 @@ pub fn lowest<K: Family>() -> K
 }
 
 pub fn highest<K: Family>() -> K
-    ensures { rank result ≡ top }
+    ensures { K.rank result ≡ K.top }
 {
     match K::from_rank(K::highest_rank()) {
         Some(key) => key,
@@ -24,7 +24,7 @@ pub fn highest<K: Family>() -> K
 
 // The key of half the sum of the ranks, rounded down.
 pub fn half<K: Family>(lo: K, hi: K) -> K
-    ensures { rank result ≡ (rank lo + rank hi) / 2 }
+    ensures { K.rank result ≡ (K.rank lo + K.rank hi) / 2 }
 {
     match K::from_rank((lo.to_rank() + hi.to_rank()) / 2) {
         Some(key) => key,
@@ -34,19 +34,19 @@ pub fn half<K: Family>(lo: K, hi: K) -> K
 
 // The key of the next rank; none after the highest.
 pub fn after<K: Family>(key: K) -> Option<K>
-    ensures { Next rank top key result }
+    ensures { Next K.rank K.top key result }
 {
     K::from_rank(key.to_rank() + 1)
 }
 
 pub fn is_below<K: Family>(key: K, other: K) -> bool
-    ensures { result ≡ nat_lt (rank key) (rank other) }
+    ensures { result ≡ nat_lt (K.rank key) (K.rank other) }
 {
     key.to_rank() < other.to_rank()
 }
 
 pub fn is_same<K: Family>(key: K, other: K) -> bool
-    ensures { result ≡ (rank key == rank other) }
+    ensures { result ≡ (K.rank key == K.rank other) }
 {
     key.to_rank() == other.to_rank()
 }

@@ -12,7 +12,7 @@ pub struct Range<K> {
 
 // Both halves of a range: lo to the half, and the key after it to hi. One key alone, or no key, has no halves.
 pub fn split<K: Family>(range: Range<K>) -> Option<(Range<K>, Range<K>)>
-    ensures { Halves rank range result }
+    ensures { Halves K.rank range result }
 {
     if !is_below(range.lo, range.hi) {
         return None;

@@ -1,4 +1,7 @@
 // Frames that go out, by the plain numbers of whoever asks for them: firmware in C, and programs that read text.
+
+#![tactic(auto)]
+
 ghost use Rattle.std.specs.Prelude.{◌≡◌};
 ghost use Rattle.branch.specs.BranchReply.{branch_reply};
 ghost use Rattle.octets.specs.Writers.{answered, left_in};

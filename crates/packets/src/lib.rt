@@ -1,3 +1,6 @@
 // RDM packets, ANSI E1.20: the layout that questions and replies share, and the parameters that they are about.
+
+#![tactic(auto)]
+
 pub mod packet;
 pub mod parameter;

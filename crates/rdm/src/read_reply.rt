@@ -4,9 +4,9 @@ ghost use Rattle.rdm.specs.ReadReply.{expects, response_at, matches, reply_in, r
 
 use crate::question::CONTROLLER;
 use crate::reply::{DeviceInfo, Response};
-use octets::numbers::two_at;
 use keys::address::Address;
 use keys::uid::Uid;
+use octets::numbers::two_at;
 use packets::packet::{Header, Packet, read_packet};
 use packets::parameter::Parameter;
 use refusals::Refusal;

@@ -2,8 +2,8 @@
 ghost use Rattle.std.specs.Prelude.{◌≡◌};
 ghost use Rattle.rdm.specs.Received.{asked_of, question_at};
 
-use octets::numbers::{six_at, two_at};
 use keys::address::Address;
+use octets::numbers::{six_at, two_at};
 use packets::packet::read_packet;
 use packets::parameter::Parameter;
 

@@ -1,4 +1,7 @@
 // The RDM line: fixtures on one cable, which a controller asks by frames and hears where their replies meet.
+
+#![tactic(auto)]
+
 pub mod asking;
 pub mod cable;
 pub mod hearing;

@@ -1,4 +1,7 @@
 // Every refusal of the project, and the number by which programs, scripts and C tell it.
+
+#![tactic(auto)]
+
 ghost use Rattle.std.specs.Prelude.{◌≡◌};
 ghost use Rattle.refusals.specs.Numbers.{number_of};
 

@@ -1,4 +1,7 @@
 // The requests of the bench tool: from a request line to its answer line.
+
+#![tactic(auto)]
+
 ghost use Rattle.std.specs.Prelude.{◌≡◌, ◌+◌, ◌≤◌, length, if◌then◌else◌, Ok, Err, nat_lt};
 ghost use Rattle.octets.specs.Buffer.{put_at, begun};
 ghost use Rattle.refusals.specs.declared.Refusal.TheVariants.{BufferTooShort};
@@ -7,8 +10,8 @@ ghost use Rattle.requests.specs.Answer.{writing_text, expected_at, reply_answer,
 use crate::kind::Kind;
 use crate::writing::Writing;
 use branch::read_branch_reply;
-use octets::buffer::put;
 use fields::{byte_field, field, hex_field, last_bytes, two_byte_field};
+use octets::buffer::put;
 use rdm::read_reply::{Expected, read_reply};
 use refusals::Refusal;
 use shown::{put_key, put_refusal, put_reply};

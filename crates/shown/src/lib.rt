@@ -1,12 +1,15 @@
 // Refusals, bytes, keys and replies as text, in a buffer from a place on. Each function answers the place behind it.
+
+#![tactic(auto)]
+
 ghost use Rattle.std.specs.Prelude.{◌≡◌, ◌+◌, ◌*◌, ◌≤◌, length, IfOk};
 ghost use Rattle.octets.specs.Buffer.{put_at};
 ghost use Rattle.branch.specs.BranchReply.{key_number};
 ghost use Rattle.rdm.specs.ReadReply.{reply_held};
 ghost use Rattle.shown.specs.Shown.{refusal_text, bytes_text, key_text, read_reply_text, reply_text, response_text};
 
-use octets::buffer::put;
 use keys::uid::Uid;
+use octets::buffer::put;
 use rdm::read_reply::ReadReply;
 use rdm::reply::Response;
 use refusals::Refusal;

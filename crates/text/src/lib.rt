@@ -1,4 +1,7 @@
 // Numbers and bytes as text: decimal and hexadecimal, both ways. The digits of a base, which both are made of, are here.
+
+#![tactic(auto)]
+
 ghost use Rattle.std.specs.Prelude.{◌≡◌, ◌^◌, ◌<◌, ◌≤◌, length, IfSome};
 ghost use Rattle.text.specs.Digits.{digit_of, digit_in, digits_after, digit_text};
 

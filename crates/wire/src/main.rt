@@ -1,4 +1,7 @@
 // The bench tool of whoever brings up a bus: a request on each line of standard input, and its answer behind it.
+
+#![tactic(auto)]
+
 use requests::{LONGEST, ROOM, answer};
 use std::io;
 use std::io::{BufWriter, Read, Write};

@@ -4,14 +4,14 @@ use Rattle.branch.specs.BranchReply.{carried_after}
 use Rattle.branch.proofs.Pairs.{drop_pairs, carried_short, carried_step, carry_fits}
 use Rattle.branch.proofs.carried_number.Goals as goal
 
-pub overflow-mul-number : goal.overflow-mul-number
-overflow-mul-number c = omega (arith, carry_fits c.loop-i.number c.loop-i.i 0 c.loop-i.invariant.0 (omega arith) (omega arith))
+pub overflow_mul-number : goal.overflow_mul-number
+overflow_mul-number c = omega (arith, carry_fits c.loop-i.number c.loop-i.i 0 c.loop-i.invariant.0 (omega arith) (omega arith))
 
 byte_fits : (c : goal.After-from) → c.from.result < 256
 byte_fits c = search (rules, and_le_l)
 
-pub overflow-add-number : goal.overflow-add-number
-overflow-add-number c = omega (arith, carry_fits c.loop-i.number c.loop-i.i c.from.result c.loop-i.invariant.0 (omega arith) (byte_fits c))
+pub overflow_add-number : goal.overflow_add-number
+overflow_add-number c = omega (arith, carry_fits c.loop-i.number c.loop-i.i c.from.result c.loop-i.invariant.0 (omega arith) (byte_fits c))
 
 pub loop-i-preserved : goal.loop-i-preserved
 loop-i-preserved c =

@@ -10,7 +10,7 @@ returns-in-Some c =
 
 pub loop-lost-preserved : goal.loop-lost-preserved
 loop-lost-preserved c =
-    sym (lead_step c.args.lead.now c.args.bytes.now c.loop-lost.lost _ c.in-default.ensures
+    sym (lead_step c.args.lead.now c.args.bytes.now c.loop-lost.lost _ c.in_default.ensures
     c.loop-lost-test.true
     c.loop-lost.invariant)
 

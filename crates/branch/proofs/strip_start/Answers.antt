@@ -7,5 +7,5 @@ pub returns : goal.returns
 returns c =
     let bytes = c.args.bytes.now in
     let start = c.args.start.now in
-    let r = c.strip-prefix.result in
-    stripped bytes start r (strip_prefix_is Decides-eqb bytes start r c.strip-prefix.ensures.cases)
+    let r = c.strip_prefix.result in
+    stripped bytes start r (strip_prefix_is Decides-eqb bytes start r c.strip_prefix.ensures.cases)

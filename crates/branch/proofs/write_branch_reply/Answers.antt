@@ -8,11 +8,11 @@ use Rattle.branch.proofs.write_branch_reply.Goals as goal
 pub returns : goal.returns
 returns c =
     let n = uid_number c.args.key in
-    let done = c.write-whole.ensures in
+    let done = c.write_whole.ensures in
     record {
       answer = done.answer;
       after = done.after;
-      reads-back =
+      reads_back =
           written_result None (branch_reply n) _ _ _ (λ bytes. (lost : ℕ) → lost ≤ 7 → branch_read (drop lost bytes) ≡ Ok n)
           done.answer
           done.after

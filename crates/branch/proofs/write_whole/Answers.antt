@@ -14,11 +14,11 @@ pub returns : goal.returns
 returns c =
     let n = uid_number c.args.key in
     let size = length-reply n in
-    let sum : c.sum-pairs-sum.result ≡ pairs_of (two_bytes (checksum_of (pairs_of (six_bytes n)))) =
-    c.sum-pairs-sum.ensures ∙ ap (λ s. pairs_of (two_bytes s)) (c.checksum.ensures ∙ ap checksum_of c.key-pairs-pairs.ensures) in
+    let sum : c.sum_pairs-sum.result ≡ pairs_of (two_bytes (checksum_of (pairs_of (six_bytes n)))) =
+    c.sum_pairs-sum.ensures ∙ ap (λ s. pairs_of (two_bytes s)) (c.checksum.ensures ∙ ap checksum_of c.key_pairs-pairs.ensures) in
     let filled =
     reply_put n c.args.buf.now c.put.new.buf c.put-2.new.buf c.put-3.new.buf
     c.put.ensures.after
-    (c.put-2.ensures.after ∙ ap (put_at c.put.new.buf 8) c.key-pairs-pairs.ensures)
+    (c.put-2.ensures.after ∙ ap (put_at c.put.new.buf 8) c.key_pairs-pairs.ensures)
     (c.put-3.ensures.after ∙ ap (put_at c.put-2.new.buf 20) sum) in
     grind (arith, nat_tests)

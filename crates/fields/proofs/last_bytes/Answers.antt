@@ -8,8 +8,8 @@ returns c =
     let line = c.args.line.now in
     let buf = c.args.buf.now in
     let room = last_fits c.args.n line buf c.requires.room in
-    let answer = c.write-last-bytes.ensures.answer ∙ room.0 in
-    let after = c.write-last-bytes.ensures.after ∙ room.1 in
+    let answer = c.write_last_bytes.ensures.answer ∙ room.0 in
+    let after = c.write_last_bytes.ensures.after ∙ room.1 in
     record {
       answer = answer;
       after = after;

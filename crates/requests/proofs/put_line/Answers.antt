@@ -18,17 +18,17 @@ returns c =
     let line = c.args.line.now in
     let text = sym (short_line line c.if-line-gt-LONGEST.false) in
     let back =
-    puts_more c.put-sign.new.buf (codes " = ") (answer_text line) c.put-text.new.buf c.put-answer.new.out c.put-sign.result
+    puts_more c.put-sign.new.buf (codes " = ") (answer_text line) c.put-text.new.buf c.put_answer.new.out c.put-sign.result
     c.put-text.result
-    c.put-answer.result
+    c.put_answer.result
     (omega arith)
     (c.put-text.ensures.end, c.put-text.ensures.after)
-    (c.put-answer.ensures.end, c.put-answer.ensures.after) in
+    (c.put_answer.ensures.end, c.put_answer.ensures.after) in
     let all =
-    puts_more c.args.out.now line (codes " = " ++ answer_text line) c.put-sign.new.buf c.put-answer.new.out 0 c.put-sign.result
-    c.put-answer.result
+    puts_more c.args.out.now line (codes " = " ++ answer_text line) c.put-sign.new.buf c.put_answer.new.out 0 c.put-sign.result
+    c.put_answer.result
     (omega arith)
     (c.put-sign.ensures.end, c.put-sign.ensures.after)
     back in
-    let done = puts_begun c.args.out.now (line ++ (codes " = " ++ answer_text line)) c.put-answer.new.out c.put-answer.result all in
+    let done = puts_begun c.args.out.now (line ++ (codes " = " ++ answer_text line)) c.put_answer.new.out c.put_answer.result all in
     record { end = done.0 ∙ ap length text; after = done.1 ∙ ap (begun c.args.out.now) text }

@@ -16,6 +16,6 @@ returns-in-Ok c =
     let text : hex_text (take (c.in-Ok.n - 0) c.write.new.buf) ≡ writing_text c.args.writing =
     ap hex_text all ∙ ap (λ r. frame_text r frame) read.answer in
     record {
-      end = c.put-hex.ensures.end ∙ ap (λ n. c.args.at + n) (sym (length-hex _) ∙ ap length text);
-      after = c.put-hex.ensures.after ∙ ap (put_at c.args.out.now c.args.at) text;
+      end = c.put_hex.ensures.end ∙ ap (λ n. c.args.at + n) (sym (length-hex _) ∙ ap length text);
+      after = c.put_hex.ensures.after ∙ ap (put_at c.args.out.now c.args.at) text;
     }

@@ -4,12 +4,12 @@ use Rattle.shown.specs.Shown.{read_reply_text, response_text, bytes_text}
 use Rattle.shown.proofs.Texts.{response_short, place_short}
 use Rattle.shown.proofs.put_read_reply.Goals as goal
 
-pub put-decimal-place-requires : goal.put-decimal-place-requires
-put-decimal-place-requires c =
+pub put_decimal-place-requires : goal.put_decimal-place-requires
+put_decimal-place-requires c =
     omega (arith, response_short c.args.reply.response, place_short c.args.reply.place c.requires.place)
 
-pub put-bytes-requires : goal.put-bytes-requires
-put-bytes-requires c =
+pub put_bytes-requires : goal.put_bytes-requires
+put_bytes-requires c =
     omega (arith, response_short c.args.reply.response, place_short c.args.reply.place c.requires.place)
 
 pub put-space-requires : goal.put-space-requires
@@ -25,29 +25,29 @@ returns c =
     let word-short = response_short response in
     let number_short = place_short place c.requires.place in
     let last =
-    puts_more c.put-decimal-place.new.buf (codes " ") (bytes_text payload) c.put-space.new.buf c.put-bytes.new.out
-    c.put-decimal-place.result
+    puts_more c.put_decimal-place.new.buf (codes " ") (bytes_text payload) c.put-space.new.buf c.put_bytes.new.out
+    c.put_decimal-place.result
     c.put-space.result
-    c.put-bytes.result
+    c.put_bytes.result
     (omega arith)
     (c.put-space.ensures.end, c.put-space.ensures.after)
-    (c.put-bytes.ensures.end, c.put-bytes.ensures.after) in
+    (c.put_bytes.ensures.end, c.put_bytes.ensures.after) in
     let back =
-    puts_more c.put-response-word.new.out (decimal place) (codes " " ++ bytes_text payload) c.put-decimal-place.new.buf
-    c.put-bytes.new.out
-    c.put-response-word.result
-    c.put-decimal-place.result
-    c.put-bytes.result
+    puts_more c.put_response-word.new.out (decimal place) (codes " " ++ bytes_text payload) c.put_decimal-place.new.buf
+    c.put_bytes.new.out
+    c.put_response-word.result
+    c.put_decimal-place.result
+    c.put_bytes.result
     (omega arith)
-    (c.put-decimal-place.ensures.end, c.put-decimal-place.ensures.after)
+    (c.put_decimal-place.ensures.end, c.put_decimal-place.ensures.after)
     last in
     let all =
-    puts_more c.args.out.now (response_text response) (decimal place ++ (codes " " ++ bytes_text payload)) c.put-response-word.new.out
-    c.put-bytes.new.out
+    puts_more c.args.out.now (response_text response) (decimal place ++ (codes " " ++ bytes_text payload)) c.put_response-word.new.out
+    c.put_bytes.new.out
     c.args.at
-    c.put-response-word.result
-    c.put-bytes.result
+    c.put_response-word.result
+    c.put_bytes.result
     (omega arith)
-    (c.put-response-word.ensures.end, c.put-response-word.ensures.after)
+    (c.put_response-word.ensures.end, c.put_response-word.ensures.after)
     back in
     record { end = all.0; after = all.1 }

@@ -6,8 +6,8 @@ use Rattle.shown.specs.Shown.{refusal_text}
 use Rattle.shown.proofs.Texts.{number_short}
 use Rattle.shown.proofs.put_refusal.Goals as goal
 
-pub put-decimal-requires : goal.put-decimal-requires
-put-decimal-requires c =
+pub put_decimal-requires : goal.put_decimal-requires
+put_decimal-requires c =
     let size = number_short c.args.refusal in
     let text = ap (λ n. length (decimal n)) c.number.ensures in
     omega arith
@@ -17,13 +17,13 @@ unfolding refusal_text
 returns c =
     let text = ap decimal c.number.ensures in
     let done =
-    puts_more c.args.out.now (codes "! ") (decimal (number_of c.args.refusal)) c.put-end.new.buf c.put-decimal.new.buf
+    puts_more c.args.out.now (codes "! ") (decimal (number_of c.args.refusal)) c.put-end.new.buf c.put_decimal.new.buf
     c.args.at
     c.put-end.result
-    c.put-decimal.result
+    c.put_decimal.result
     (omega arith)
     (c.put-end.ensures.end, c.put-end.ensures.after) (
-      c.put-decimal.ensures.end ∙ ap (λ t. c.put-end.result + length t) text,
-      c.put-decimal.ensures.after ∙ ap (put_at c.put-end.new.buf c.put-end.result) text,
+      c.put_decimal.ensures.end ∙ ap (λ t. c.put-end.result + length t) text,
+      c.put_decimal.ensures.after ∙ ap (put_at c.put-end.new.buf c.put-end.result) text,
     ) in
     record { end = done.0; after = done.1 }

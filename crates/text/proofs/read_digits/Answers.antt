@@ -10,11 +10,11 @@ fits c =
     digit_fits c.args.base c.loop-c.number c.loop-c.c-index c.in-Some.value (omega arith) c.loop-c.invariant.0 (omega arith)
     (digit_below c.args.base _ c.in-Some.value c.in-Some.ensures)
 
-pub overflow-mul-number : goal.overflow-mul-number
-overflow-mul-number c = omega (arith, fits c)
+pub overflow_mul-number : goal.overflow_mul-number
+overflow_mul-number c = omega (arith, fits c)
 
-pub overflow-add-number : goal.overflow-add-number
-overflow-add-number c = omega (arith, fits c)
+pub overflow_add-number : goal.overflow_add-number
+overflow_add-number c = omega (arith, fits c)
 
 pub returns-in-None : goal.returns-in-None
 returns-in-None c = record { bound = tt; value = digit_none _ _ _ _ c.loop-c-test.true c.loop-c.invariant.1 c.in-None.ensures }

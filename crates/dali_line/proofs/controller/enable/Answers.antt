@@ -4,6 +4,6 @@ use Rattle.dali_line.proofs.controller.enable.Goals as goal
 
 pub returns : goal.returns
 returns c = record {
-  units-after = c.send-all.ensures.units-after ∙ enable_sent c.args.bus.now c.args.units.now;
-  bus_after = c.send-all.ensures.bus-after;
+  units_after = c.send_all.ensures.units_after ∙ enable_sent c.args.bus.now c.args.units.now;
+  bus_after = c.send_all.ensures.bus_after;
 }

@@ -15,11 +15,11 @@ returns-in-One c =
     let address = c.args.address in
     let told : Sent c.send.new.units c.send.new.bus QueryShortAddress (One c.in-One.byte) c.send-2.new.units c.send-2.new.bus =
     c.in-One.ensures in
-    let (heard, units-after, bus_after) =
-    program_sent c.args.key c.seek.ensures.units-after c.seek.ensures.bus-after address c.send.ensures told in
+    let (heard, units_after, bus_after) =
+    program_sent c.args.key c.seek.ensures.units_after c.seek.ensures.bus_after address c.send.ensures told in
     record {
       answer = ap (eqb c.in-One.byte) c.byte.ensures ∙ one_same selected (short_byte address) c.in-One.byte heard;
-      units-after = units-after;
+      units_after = units_after;
       bus_after = bus_after;
     }
 
@@ -27,10 +27,10 @@ pub returns-in-Nothing : goal.returns-in-Nothing
 returns-in-Nothing c =
     let selected = filter (selected_at (random_number c.args.key)) c.args.units.now in
     let address = c.args.address in
-    let (heard, units-after, bus_after) =
-    program_sent c.args.key c.seek.ensures.units-after c.seek.ensures.bus-after address c.send.ensures c.send-2.ensures in
+    let (heard, units_after, bus_after) =
+    program_sent c.args.key c.seek.ensures.units_after c.seek.ensures.bus_after address c.send.ensures c.send-2.ensures in
     record {
       answer = ap is_some (none_told selected (λ _. short_byte address) c.send-2.result heard c.in-Nothing.is);
-      units-after = units-after;
+      units_after = units_after;
       bus_after = bus_after;
     }

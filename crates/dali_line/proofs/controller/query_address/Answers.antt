@@ -8,17 +8,17 @@ use Rattle.dali_line.proofs.controller.query_address.Goals as goal
 pub returns-in-One : goal.returns-in-One
 returns-in-One c =
     let selected = filter (selected_at (random_number c.args.key)) c.args.units.now in
-    let (heard, units-after, bus_after) =
-    query_sent c.args.key c.seek.ensures.units-after c.seek.ensures.bus-after c.in-One.ensures in
+    let (heard, units_after, bus_after) =
+    query_sent c.args.key c.seek.ensures.units_after c.seek.ensures.bus_after c.in-One.ensures in
     record {
-      answer = one_told selected c.in-One.byte c.read-address-reply.result heard c.read-address-reply.ensures;
-      units-after = units-after;
+      answer = one_told selected c.in-One.byte c.read_address_reply.result heard c.read_address_reply.ensures;
+      units_after = units_after;
       bus_after = bus_after;
     }
 
 pub returns-in-Nothing : goal.returns-in-Nothing
 returns-in-Nothing c =
     let selected = filter (selected_at (random_number c.args.key)) c.args.units.now in
-    let (heard, units-after, bus_after) =
-    query_sent c.args.key c.seek.ensures.units-after c.seek.ensures.bus-after c.send.ensures in
-    record { answer = none_told selected address_byte c.send.result heard c.in-Nothing.is; units-after = units-after; bus_after = bus_after }
+    let (heard, units_after, bus_after) =
+    query_sent c.args.key c.seek.ensures.units_after c.seek.ensures.bus_after c.send.ensures in
+    record { answer = none_told selected address_byte c.send.result heard c.in-Nothing.is; units_after = units_after; bus_after = bus_after }

@@ -8,10 +8,10 @@ pub returns : goal.returns
 returns c =
     let units = c.args.units.now in
     let bus = c.args.bus.now in
-    let frames = c.search-frames.ensures in
-    let sent : c.send-all.new.units ≡ units_after_all bus c.search-frames.result units = c.send-all.ensures.units-after in
-    let passed : c.send-all.new.bus ≡ bus_after_all bus c.search-frames.result = c.send-all.ensures.bus-after in
+    let frames = c.search_frames.ensures in
+    let sent : c.send_all.new.units ≡ units_after_all bus c.search_frames.result units = c.send_all.ensures.units_after in
+    let passed : c.send_all.new.bus ≡ bus_after_all bus c.search_frames.result = c.send_all.ensures.bus_after in
     record {
-      units-after = sent ∙ ap (λ fs. units_after_all bus fs units) frames ∙ seek_sent bus (random_number c.args.key) units;
+      units_after = sent ∙ ap (λ fs. units_after_all bus fs units) frames ∙ seek_sent bus (random_number c.args.key) units;
       bus_after = passed ∙ ap (bus_after_all bus) frames;
     }

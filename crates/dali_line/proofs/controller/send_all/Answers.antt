@@ -20,6 +20,6 @@ returns c =
     let units = c.loop-frame.units in
     let all = c.loop-frame-test.false in
     record {
-      units-after = sym (at_drop_all (λ fs. units_after_all bus fs units) frames i all) ∙ c.loop-frame.invariant.0;
+      units_after = sym (at_drop_all (λ fs. units_after_all bus fs units) frames i all) ∙ c.loop-frame.invariant.0;
       bus_after = sym (at_drop_all (bus_after_all bus) frames i all) ∙ c.loop-frame.invariant.1;
     }

@@ -14,5 +14,5 @@ returns g c =
     record {
       after = after;
       answer = c.hush.ensures.answer ∙ ap (λ n. hush_answer n key) c.rouse.ensures ∙ answer_roused rank same m key;
-      every-other-fitted-key-is-awake = λ k. ap (λ n. is_awake n k) after ∙ awake_but_one rank same m key k;
+      every_other_fitted_key_is_awake = λ k. ap (λ n. is_awake n k) after ∙ awake_but_one rank same m key k;
     }

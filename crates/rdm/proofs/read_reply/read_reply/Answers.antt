@@ -3,16 +3,16 @@ use Rattle.std.proofs.lemmas.Result.{err_from_is_err_and}
 use Rattle.rdm.specs.ReadReply.{reply_at, reply_in}
 use Rattle.rdm.proofs.read_reply.read_reply.Goals as goal
 
-pub returns-in-err-packet : goal.returns-in-err-packet
+pub returns-in_err-packet : goal.returns-in_err-packet
 unfolding reply_at
-returns-in-err-packet c =
-    let p = err_from_is_err_and c.from-residual.result c.from-residual.ensures.1 in
-    let read = ap (reply_in c.args.expected) c.in-err-packet.ensures.value in
+returns-in_err-packet c =
+    let p = err_from_is_err_and c.from_residual.result c.from_residual.ensures.1 in
+    let read = ap (reply_in c.args.expected) c.in_err-packet.ensures.value in
     record { value = rw (p.1, p.2) read; bound = rw p.1 tt }
 
 pub returns : goal.returns
 unfolding reply_at
 returns c = record {
-  value = c.match-reply.ensures.value ∙ ap (reply_in c.args.expected) c.in-ok-packet.ensures.value;
-  bound = c.match-reply.ensures.bound;
+  value = c.match_reply.ensures.value ∙ ap (reply_in c.args.expected) c.in_ok-packet.ensures.value;
+  bound = c.match_reply.ensures.bound;
 }

@@ -11,7 +11,7 @@ loop-fixture-preserved c =
     let turn = c.loop-fixture in (
       search (rules, map_over_more (after frame)),
       gathered_more c.args.mode frame (after frame) c.args.fixtures.now _ turn.fixtures turn.fixture-index c.fixture-item.result _ _ _ (search rules)
-          turn.invariant.0 c.fixture-item.is c.speak-to.ensures.signal c.join-cable.ensures turn.invariant.1,
+          turn.invariant.0 c.fixture-item.is c.speak_to.ensures.signal c.join-cable.ensures turn.invariant.1,
     )
 
 pub returns : goal.returns

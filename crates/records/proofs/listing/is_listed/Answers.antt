@@ -4,11 +4,11 @@ use Rattle.records.specs.Rows.{row_ranks}
 use Rattle.records.proofs.Places.{in_next, in_none}
 use Rattle.records.proofs.listing.is_listed.Goals as goal
 
-pub returns-then-is-same : goal.returns-then-is-same
-returns-then-is-same g c =
+pub returns-then-is_same : goal.returns-then-is_same
+returns-then-is_same g c =
     let rank = g.K.Family.rank in
     let rest = is_in (rank c.args.key) (row_ranks rank (drop (c.loop-row.row-index + 1) c.args.rows.now)) in
-    ap (λ t. t || rest) c.if-is-same.ensures
+    ap (λ t. t || rest) c.if-is_same.ensures
     ∙ sym (in_next rank (rank c.args.key) c.args.rows.now c.loop-row.row-index c.row-item.result c.row-item.is c.loop-row-test.true)
     ∙ c.loop-row.invariant
 
@@ -16,7 +16,7 @@ pub loop-row-preserved : goal.loop-row-preserved
 loop-row-preserved g c =
     let rank = g.K.Family.rank in
     let rest = is_in (rank c.args.key) (row_ranks rank (drop (c.loop-row.row-index + 1) c.args.rows.now)) in
-    ap (λ t. t || rest) c.if-is-same.ensures
+    ap (λ t. t || rest) c.if-is_same.ensures
     ∙ sym (in_next rank (rank c.args.key) c.args.rows.now c.loop-row.row-index c.row-item.result c.row-item.is c.loop-row-test.true)
     ∙ c.loop-row.invariant
 

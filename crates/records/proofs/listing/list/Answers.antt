@@ -15,7 +15,7 @@ returns g c =
     let count = c.args.count in
     let room = lt-ltb count (length memory) (omega arith) in
     let at = c.place-at.result in
-    let put = rotated_in memory count at c.new.result (omega arith) c.place-at.ensures.bound c.rotate-right.new.self c.rotate-right.ensures.after in
+    let put = rotated_in memory count at c.new.result (omega arith) c.place-at.ensures.bound c.rotate_right.new.self c.rotate_right.ensures.after in
     let front = take count memory in
     record {
       answer = sym room;

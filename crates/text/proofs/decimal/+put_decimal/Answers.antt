@@ -11,15 +11,15 @@ pub returns-then-number-lt10 : goal.returns-then-number-lt10
 returns-then-number-lt10 t c =
     let n = c.args.number in
     let text = one_digit n c.if-number-lt10.true in
-    let last = ap (λ d. d ∷ []) c.digit-char.ensures ∙ sym text in
+    let last = ap (λ d. d ∷ []) c.digit_char.ensures ∙ sym text in
     record {
       end = omega (arith, ap length text);
       after = c.put.ensures.after ∙ ap (put_at c.args.buf.now c.args.at) last;
-      reads-back = number_of_text n;
+      reads_back = number_of_text n;
     }
 
-pub put-decimal-end-requires : goal.put-decimal-end-requires
-put-decimal-end-requires t c = omega (arith, length_more c.args.number c.if-number-lt10.false (search rules))
+pub put_decimal-end-requires : goal.put_decimal-end-requires
+put_decimal-end-requires t c = omega (arith, length_more c.args.number c.if-number-lt10.false (search rules))
 
 pub put-requires-2 : goal.put-requires-2
 put-requires-2 t c = omega (arith, length_more c.args.number c.if-number-lt10.false (search rules))
@@ -32,11 +32,11 @@ returns t c =
     record {
       end = omega (arith, more);
       after =
-          number_put c.args.buf.now c.put-decimal-end.new.buf c.put-2.new.buf n c.args.at c.put-decimal-end.result large
+          number_put c.args.buf.now c.put_decimal-end.new.buf c.put-2.new.buf n c.args.at c.put_decimal-end.result large
           (search rules)
           (omega arith)
-          c.put-decimal-end.ensures.end
-          c.put-decimal-end.ensures.after
-          (c.put-2.ensures.after ∙ ap (λ d. put_at c.put-decimal-end.new.buf c.put-decimal-end.result (d ∷ [])) c.digit-char.ensures);
-      reads-back = number_of_text n;
+          c.put_decimal-end.ensures.end
+          c.put_decimal-end.ensures.after
+          (c.put-2.ensures.after ∙ ap (λ d. put_at c.put_decimal-end.new.buf c.put_decimal-end.result (d ∷ [])) c.digit_char.ensures);
+      reads_back = number_of_text n;
     }

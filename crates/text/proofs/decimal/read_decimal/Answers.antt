@@ -4,13 +4,13 @@ use Rattle.text.proofs.DecimalText.{found_text}
 use Rattle.text.proofs.Numbers.{seven_fit}
 use Rattle.text.proofs.decimal.read_decimal.Goals as goal
 
-pub overflow-cast-result : goal.overflow-cast-result
-overflow-cast-result c =
-    let few = c.if-not-has-shape.ensures.bound refl in
+pub overflow_cast-result : goal.overflow_cast-result
+overflow_cast-result c =
+    let few = c.if-not-has_shape.ensures.bound refl in
     let fits = seven_fit c.in-Some.number (length c.args.text.now) c.in-Some.ensures.bound few in
     omega arith
 
 pub returns-in-Some : goal.returns-in-Some
 returns-in-Some c =
     let read : Some c.in-Some.number ≡ decimal_at c.args.text.now = search rules in
-    record { value = read; is-the-text-of-its-number = found_text c.args.text.now _ read }
+    record { value = read; is_the_text_of_its_number = found_text c.args.text.now _ read }

@@ -18,7 +18,7 @@ loop-b-preserved c = (
       c.requires
       c.loop-b.invariant.0
       c.loop-b.invariant.1
-      (c.put-end.ensures.after ∙ ap (put_at c.loop-b.buf c.loop-b.end) c.byte-digits.ensures),
+      (c.put-end.ensures.after ∙ ap (put_at c.loop-b.buf c.loop-b.end) c.byte_digits.ensures),
 )
 
 pub returns : goal.returns
@@ -26,6 +26,6 @@ returns c =
     let all = take_all c.loop-b.b-index c.args.bytes.now c.loop-b-test.false in
     record {
       end = omega arith;
-      reads-back = hex_reads_back c.args.bytes.now (All-from_get_or (λ b. b < 256) c.args.bytes.now 0 (λ i _. search (rules, c.type-inv.bytes i)));
+      reads_back = hex_reads_back c.args.bytes.now (All-from_get_or (λ b. b < 256) c.args.bytes.now 0 (λ i _. search (rules, c.type_inv.bytes i)));
       after = c.loop-b.invariant.1 ∙ ap (λ bytes. put_at c.args.buf.now c.args.at (hex_text bytes)) all;
     }

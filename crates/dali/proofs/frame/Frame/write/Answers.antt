@@ -10,12 +10,12 @@ pub returns : goal.returns
 returns c =
     let frame = c.args.self in
     let buf = c.args.buf.now in
-    let answer = c.write-bytes.ensures.answer ∙ ap (λ bytes. answered None bytes buf) c.bytes.ensures in
-    let after = c.write-bytes.ensures.after ∙ ap (λ bytes. left_in None bytes buf) c.bytes.ensures in
+    let answer = c.write_bytes.ensures.answer ∙ ap (λ bytes. answered None bytes buf) c.bytes.ensures in
+    let after = c.write_bytes.ensures.after ∙ ap (λ bytes. left_in None bytes buf) c.bytes.ensures in
     record {
       answer = answer;
       after = after;
-      reads-back =
+      reads_back =
           written_result None (frame_bytes frame) buf _ _ (λ bytes. (read : Frame) → frame_bytes read ≡ bytes → read ≡ frame)
           answer
           after

@@ -6,13 +6,13 @@ use Rattle.dali_line.specs.Making.{every}
 use Rattle.dali_line.proofs.Makings.{numbered_is}
 use Rattle.dali_line.proofs.line.making.all_are_keys.Goals as goal
 
-pub returns-then-is-none : goal.returns-then-is-none
-returns-then-is-none c =
+pub returns-then-is_none : goal.returns-then-is_none
+returns-then-is_none c =
     let i = c.loop-number.number-index in
     let numbers = c.args.numbers.now in
     first_lacks _ _ _
     (sym c.loop-number.invariant ∙ at_drop_more (every is_random_number) numbers i 0 c.loop-number-test.true)
-    (numbered_is (get_or numbers i 0) c.from-number.result c.from-number.ensures ∙ c.if-is-none.ensures)
+    (numbered_is (get_or numbers i 0) c.from_number.result c.from_number.ensures ∙ c.if-is_none.ensures)
 
 pub loop-number-preserved : goal.loop-number-preserved
 loop-number-preserved c =
@@ -20,7 +20,7 @@ loop-number-preserved c =
     let numbers = c.args.numbers.now in
     first_has _ _ _
     (sym c.loop-number.invariant ∙ at_drop_more (every is_random_number) numbers i 0 c.loop-number-test.true)
-    (numbered_is (get_or numbers i 0) c.from-number.result c.from-number.ensures ∙ c.if-is-none.ensures)
+    (numbered_is (get_or numbers i 0) c.from_number.result c.from_number.ensures ∙ c.if-is_none.ensures)
 
 pub returns : goal.returns
 returns c =

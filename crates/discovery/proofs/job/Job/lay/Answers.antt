@@ -7,33 +7,33 @@ use Rattle.discovery.specs.Books.{memory_of, rows_of}
 use Rattle.discovery.proofs.Laying.{lay_refused, slots_fit, lay_done}
 use Rattle.discovery.proofs.job.Job.lay.Goals as goal
 
-pub returns-in-err-check : goal.returns-in-err-check
-returns-in-err-check g c =
+pub returns-in_err-check : goal.returns-in_err-check
+returns-in_err-check g c =
     let m = g.L.Line.means c.args.line.now in
-    let e = c.in-err-check.field-0.0 in
-    let p = err_from_is_err_and c.from-residual.result c.from-residual.ensures.1 in
+    let e = c.in_err-check.field-0.0 in
+    let p = err_from_is_err_and c.from_residual.result c.from_residual.ensures.1 in
     let checked = c.check.ensures.value ∙ ap (λ phase. refused_or_done (widths_refusal phase g.K.Family.count m (rows_of c.args.book.now))) c.phase.ensures in
     lay_refused g.K.Family.rank g.K.Family.first g.K.Family.count m (g.L.Line.means c.check.new.line) c.args.book.now c.args.self.now
-    c.check.ensures.same e c.from-residual.result (sym c.in-err-check.was ∙ checked) (rw (p.1, p.2) (λ i. Err e))
+    c.check.ensures.same e c.from_residual.result (sym c.in_err-check.was ∙ checked) (rw (p.1, p.2) (λ i. Err e))
 
-pub number-rows-requires : goal.number-rows-requires
-number-rows-requires g c =
+pub number_rows-requires : goal.number_rows-requires
+number_rows-requires g c =
     let m = g.L.Line.means c.args.line.now in
     let bounds = g.met.K.Family.addresses_in_bounds in
-    let checked = sym c.in-ok-check.was ∙ c.check.ensures.value ∙ ap (λ phase. refused_or_done (widths_refusal phase g.K.Family.count m (rows_of c.args.book.now))) c.phase.ensures in
+    let checked = sym c.in_ok-check.was ∙ c.check.ensures.value ∙ ap (λ phase. refused_or_done (widths_refusal phase g.K.Family.count m (rows_of c.args.book.now))) c.phase.ensures in
     slots_fit g.K.Family.rank g.K.Family.first g.K.Family.count m (g.L.Line.means c.check.new.line) c.args.book.now c.args.self.now
-    c.check.ensures.same c.first-address.result c.first-address.ensures bounds.0 bounds.1 checked
+    c.check.ensures.same c.first_address.result c.first_address.ensures bounds.0 bounds.1 checked
 
 pub returns : goal.returns
 returns g c =
     let m = g.L.Line.means c.args.line.now in
-    let checked = sym c.in-ok-check.was ∙ c.check.ensures.value ∙ ap (λ phase. refused_or_done (widths_refusal phase g.K.Family.count m (rows_of c.args.book.now))) c.phase.ensures in
+    let checked = sym c.in_ok-check.was ∙ c.check.ensures.value ∙ ap (λ phase. refused_or_done (widths_refusal phase g.K.Family.count m (rows_of c.args.book.now))) c.phase.ensures in
     let b = c.args.book.now in
     let written =
-    c.number-rows.ensures.after
-    ∙ ap (λ n. numbered c.first-address.result n (rows_of b) ++ drop b.count (memory_of b)) c.check.ensures.same
-    ∙ ap (λ first. numbered first m (rows_of b) ++ drop b.count (memory_of b)) c.first-address.ensures in
-    lay_done g.K.Family.rank g.K.Family.first g.K.Family.count m (g.L.Line.means c.number-rows.new.line) c.args.book.now c.args.self.now
-    (c.number-rows.ensures.same ∙ c.check.ensures.same)
-    record { records = set_vals c.number-rows.new.memory c.args.book.now.records; count = c.args.book.now.count } c.enter.new.self
+    c.number_rows.ensures.after
+    ∙ ap (λ n. numbered c.first_address.result n (rows_of b) ++ drop b.count (memory_of b)) c.check.ensures.same
+    ∙ ap (λ first. numbered first m (rows_of b) ++ drop b.count (memory_of b)) c.first_address.ensures in
+    lay_done g.K.Family.rank g.K.Family.first g.K.Family.count m (g.L.Line.means c.number_rows.new.line) c.args.book.now c.args.self.now
+    (c.number_rows.ensures.same ∙ c.check.ensures.same)
+    record { records = set_vals c.number_rows.new.memory c.args.book.now.records; count = c.args.book.now.count } c.enter.new.self
     (λ i. c.args.book.now.count) written c.enter.ensures checked

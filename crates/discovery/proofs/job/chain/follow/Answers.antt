@@ -20,7 +20,7 @@ pub loop-call-preserved : goal.loop-call-preserved
 loop-call-preserved g c line memory leads =
     one_more g.Key.Family.rank g.Key.Family.levels g.Key.Family.top g.Key.Family.first g.Key.Family.count line memory c.args.calls.now
     (g.L.Line.means c.loop-call.line) (g.L.Line.means c.then-newest.new.line) c.loop-call.book c.then-newest.new.book c.loop-call.newest c.then-newest.result c.loop-call.call-index Open c.loop-call-test.true
-    c.then-newest.ensures.makes-the-call c.then-newest.ensures.or-changes-nothing c.then-newest.ensures.every-chain-goes-on-as-promised
+    c.then-newest.ensures.makes_the_call c.then-newest.ensures.or_changes_nothing c.then-newest.ensures.every_chain_goes_on_as_promised
     (c.loop-call.invariant line memory leads)
 
 pub returns : goal.returns
@@ -31,7 +31,7 @@ returns g c =
     leads_from_open g.Key.Family.rank g.Key.Family.levels g.Key.Family.top g.Key.Family.first g.Key.Family.count (laws g) line memory
     (scene_of g.Key.Family.rank (g.L.Line.means c.open.new.line) c.open.new.book c.open.result) c.open.ensures in
     record {
-      leads-here-as-promised =
+      leads_here_as_promised =
           all_made g.Key.Family.rank g.Key.Family.levels g.Key.Family.top g.Key.Family.first g.Key.Family.count line memory c.args.calls.now
           (g.L.Line.means c.loop-call.line) c.loop-call.book c.loop-call.newest c.loop-call.call-index (search rules)
           (c.loop-call.invariant line memory leads);

@@ -7,7 +7,7 @@ pub loop-row-preserved : goal.loop-row-preserved
 loop-row-preserved g c =
     let rows = c.args.rows.now in
     let i = c.loop-row.row-index in
-    ap (λ n. all_written g.Key.Family.rank g.Key.Family.first g.Key.Family.count n (drop (i + 1) rows)) c.write-row.ensures
+    ap (λ n. all_written g.Key.Family.rank g.Key.Family.first g.Key.Family.count n (drop (i + 1) rows)) c.write_row.ensures
     ∙ written_next g.Key.Family.rank g.Key.Family.first g.Key.Family.count (g.L.Line.means c.loop-row.line) rows i c.row-item.result c.row-item.is c.loop-row-test.true
     ∙ c.loop-row.invariant
 

@@ -8,13 +8,13 @@ use Rattle.discovery.proofs.job.laying.number.Goals as goal
 pub loop-row-init : goal.loop-row-init
 loop-row-init g c = (refl, refl, refl, refl)
 
-pub overflow-add-next : goal.overflow-add-next
-overflow-add-next g c =
+pub overflow_add-next : goal.overflow_add-next
+overflow_add-next g c =
     let m = g.L.Line.means c.args.line.now in
     let row = c.row-item.result in
     let more = c.loop-row-test.true in
-    let width = c.width-of-width.ensures.value ∙ ap (λ n. width_of (query_answer n (get_or c.loop-row.rows c.loop-row.row-index row).key)) c.loop-row.invariant.0 in
-    let enough = slot_enough m c.loop-row.next c.loop-row.rows c.loop-row.row-index row c.width-of-width.result c.address-at-row.result (search rules) width c.address-at-row.ensures in
+    let width = c.width_of-width.ensures.value ∙ ap (λ n. width_of (query_answer n (get_or c.loop-row.rows c.loop-row.row-index row).key)) c.loop-row.invariant.0 in
+    let enough = slot_enough m c.loop-row.next c.loop-row.rows c.loop-row.row-index row c.width_of-width.result c.address_at-row.result (search rules) width c.address_at-row.ensures in
     let all = c.loop-row.invariant.2 in
     let given = c.requires in
     omega arith
@@ -23,11 +23,11 @@ pub loop-row-preserved : goal.loop-row-preserved
 loop-row-preserved g c =
     let m = g.L.Line.means c.args.line.now in
     let row = c.row-item.result in
-    let width = c.width-of-width.ensures.value ∙ ap (λ n. width_of (query_answer n (get_or c.loop-row.rows c.loop-row.row-index row).key)) c.loop-row.invariant.0 in (
-      c.width-of-width.ensures.same ∙ c.loop-row.invariant.0,
-      numbered_next m c.loop-row.next c.loop-row.rows c.loop-row.row-index row c.width-of-width.result c.address-at-row.result (search rules) width c.address-at-row.ensures
+    let width = c.width_of-width.ensures.value ∙ ap (λ n. width_of (query_answer n (get_or c.loop-row.rows c.loop-row.row-index row).key)) c.loop-row.invariant.0 in (
+      c.width_of-width.ensures.same ∙ c.loop-row.invariant.0,
+      numbered_next m c.loop-row.next c.loop-row.rows c.loop-row.row-index row c.width_of-width.result c.address_at-row.result (search rules) width c.address_at-row.ensures
           ∙ c.loop-row.invariant.1,
-      slots_next m c.loop-row.next c.loop-row.rows c.loop-row.row-index row c.width-of-width.result c.address-at-row.result (search rules) width c.address-at-row.ensures
+      slots_next m c.loop-row.next c.loop-row.rows c.loop-row.row-index row c.width_of-width.result c.address_at-row.result (search rules) width c.address_at-row.ensures
           ∙ c.loop-row.invariant.2,
       length-set c.loop-row.rows c.loop-row.row-index _ ∙ c.loop-row.invariant.3,
     )

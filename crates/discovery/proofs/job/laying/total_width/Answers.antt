@@ -6,8 +6,8 @@ use Rattle.discovery.proofs.job.laying.total_width.Goals as goal
 pub loop-row-init : goal.loop-row-init
 loop-row-init g c = (refl, total_start (g.L.Line.means c.args.line.now) c.args.rows.now, omega arith)
 
-pub overflow-add-total : goal.overflow-add-total
-overflow-add-total g c = search rules
+pub overflow_add-total : goal.overflow_add-total
+overflow_add-total g c = search rules
 
 pub returns-in-None : goal.returns-in-None
 returns-in-None g c =

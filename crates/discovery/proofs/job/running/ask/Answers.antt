@@ -8,13 +8,13 @@ pub returns : goal.returns
 returns g c =
     let rank = g.Key.Family.rank in
     let m = g.L.Line.means c.args.line.now in
-    let n = g.L.Line.means c.put-question-answer.new.line in
+    let n = g.L.Line.means c.put_question-answer.new.line in
     let w = c.args.job.now.walk in
     let book = c.args.book.now in
-    let reply = c.put-question-answer.result in
+    let reply = c.put_question-answer.result in
     record {
       reply = reply;
-      honest = honest_reply rank m n (walk_of rank w (rows_of book)) c.in-Some.question reply c.in-Some.ensures c.put-question-answer.ensures;
+      honest = honest_reply rank m n (walk_of rank w (rows_of book)) c.in-Some.question reply c.in-Some.ensures c.put_question-answer.ensures;
       is_heard = c.hear.ensures.walk;
       book_kept = λ old. book_unlisted rank book c.hear.new.book w.hushing _ c.hear.ensures.book old;
       key_listed = λ new k is.

@@ -31,16 +31,16 @@ returns-in-Some g c =
     record {
       answer = told_is;
       walk = walk_is;
-      honest-answers-lead-on = λ m n reached honest.
+      honest_answers_lead_on = λ m n reached honest.
           leads_on_by rank g.K.Family.levels g.K.Family.top (places_of book) (laws g) (omega arith) m n walk c.args.answer walk _ walk_is told_is reached honest;
       book = book_untouched rank w.hushing book _ (refused_lists (places_of book) walk answer refusal is);
     }
 
-pub hear-answer-requires : goal.hear-answer-requires
-hear-answer-requires g c =
+pub hear_answer-requires : goal.hear_answer-requires
+hear_answer-requires g c =
     let rank = g.K.Family.rank in
     let w = c.args.self.now in
-    let free = unrefused w.phase w.questions (option_map rank w.hushing) (answer_ranks rank c.args.answer) (sym c.in-default.ensures) in
+    let free = unrefused w.phase w.questions (option_map rank w.hushing) (answer_ranks rank c.args.answer) (sym c.in_default.ensures) in
     (search rules, (search (rules, free.0), search (rules, free.1)))
 
 pub returns : goal.returns
@@ -50,13 +50,13 @@ returns g c =
     let book = c.args.book.now in
     let walk = walk_of rank w (rows_of book) in
     let answer = answer_ranks rank c.args.answer in
-    let is = sym c.in-default.ensures in
-    let done = c.hear-answer.ensures.walk ∙ sym (unrefused_walk (places_of book) walk answer is) in
+    let is = sym c.in_default.ensures in
+    let done = c.hear_answer.ensures.walk ∙ sym (unrefused_walk (places_of book) walk answer is) in
     let told_is = c.outcome.ensures ∙ ap (λ (v : Walk). told v.phase) done ∙ sym (unrefused_told (places_of book) walk answer is) in
     record {
       answer = told_is;
       walk = done;
-      honest-answers-lead-on = λ m n reached honest.
+      honest_answers_lead_on = λ m n reached honest.
           leads_on_by rank g.K.Family.levels g.K.Family.top (places_of book) (laws g) (omega arith) m n walk c.args.answer _ _ done told_is reached honest;
-      book = book_retold rank book c.hear-answer.new.book w.hushing w.hushing _ _ refl (unrefused_lists (places_of book) walk answer is) c.hear-answer.ensures.book;
+      book = book_retold rank book c.hear_answer.new.book w.hushing w.hushing _ _ refl (unrefused_lists (places_of book) walk answer is) c.hear_answer.ensures.book;
     }

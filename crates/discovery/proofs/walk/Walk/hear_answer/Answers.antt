@@ -12,13 +12,13 @@ use Rattle.discovery.proofs.Rows.{book_untouched, book_retold}
 use Rattle.discovery.proofs.Stacks.{few_pending}
 use Rattle.discovery.proofs.walk.Walk.hear_answer.Goals as goal
 
-pub returns-in-default : goal.returns-in-default
-returns-in-default g c =
+pub returns-in_default : goal.returns-in_default
+returns-in_default g c =
     let rank = g.K.Family.rank in
     let w = c.args.self.now in
     let book = c.args.book.now in
     let walk = walk_of rank w (rows_of book) in
-    let is = of_none rank (places_of book) (ranks_of rank w.pending) w.hushing c.args.answer walk (sym c.in-default.ensures) in
+    let is = of_none rank (places_of book) (ranks_of rank w.pending) w.hushing c.args.answer walk (sym c.in_default.ensures) in
     record {
       walk = stands_still walk (few_pending rank w.pending) ∙ sym (ap (in_memory walk) is.0);
       book = book_untouched rank w.hushing book _ is.1;
@@ -36,7 +36,7 @@ returns-in-None-Probe g c =
     c.in-None-Probe.reply
     c.in-None-Probe.is-0
     c.in-None-Probe.is-1 in
-    record { walk = c.hear-probe.ensures ∙ sym (ap (in_memory walk) is.0); book = book_untouched rank w.hushing book _ is.1 }
+    record { walk = c.hear_probe.ensures ∙ sym (ap (in_memory walk) is.0); book = book_untouched rank w.hushing book _ is.1 }
 
 pub returns-in-None-Hush : goal.returns-in-None-Hush
 returns-in-None-Hush g c =
@@ -83,8 +83,8 @@ returns-then-replied g c =
     c.in-Some-Hush.is-0
     (c.in-Some-Hush.is-1 ∙ ap Hush c.if-replied.true) in
     record {
-      walk = c.hear-yes.ensures.walk ∙ sym (ap (in_memory walk) is.0);
-      book = book_retold rank book c.hear-yes.new.book w.hushing (Some key) _ _ c.in-Some-Hush.is-0 is.1 c.hear-yes.ensures.book;
+      walk = c.hear_yes.ensures.walk ∙ sym (ap (in_memory walk) is.0);
+      book = book_retold rank book c.hear_yes.new.book w.hushing (Some key) _ _ c.in-Some-Hush.is-0 is.1 c.hear_yes.ensures.book;
     }
 
 pub returns-else-replied : goal.returns-else-replied
@@ -100,6 +100,6 @@ returns-else-replied g c =
     c.in-Some-Hush.is-0
     (c.in-Some-Hush.is-1 ∙ ap Hush c.if-replied.false) in
     record {
-      walk = c.hear-no.ensures (row_ranks rank (rows_of book)) ∙ sym (ap (in_memory walk) is.0);
+      walk = c.hear_no.ensures (row_ranks rank (rows_of book)) ∙ sym (ap (in_memory walk) is.0);
       book = book_untouched rank w.hushing book _ is.1;
     }

@@ -11,14 +11,14 @@ returns-in-None-default g c = λ listed.
     let rank = g.K.Family.rank in
     let w = standing rank c.args.self.now listed in
     let one = subst (Halves rank c.args.range) c.in-None-default.is-0 c.split.ensures in
-    c.hush-next.ensures listed ∙ loud_one w (range_ranks rank c.args.range) c.requires.lowest (option_map rank c.args.hint) one
+    c.hush_next.ensures listed ∙ loud_one w (range_ranks rank c.args.range) c.requires.lowest (option_map rank c.args.hint) one
 
 pub returns-in-Some-Some : goal.returns-in-Some-Some
 returns-in-Some-Some g c = λ listed.
     let rank = g.K.Family.rank in
     let w = standing rank c.args.self.now listed in
     let r = range_ranks rank c.args.range in
-    c.hush-next-in-Some-Some.ensures listed
+    c.hush_next-in-Some-Some.ensures listed
     ∙ sym (ap (λ hint. after_hint r (option_map rank hint) w) c.in-Some-Some.is-1)
     ∙ loud_several w r c.requires.lowest (option_map rank c.args.hint) c.in-Some-Some.ensures.0
 
@@ -30,7 +30,7 @@ returns-in-Some-None g c = λ listed.
     let halves = c.in-Some-None.ensures in
     let lower = c.in-Some-None.halves.0 in
     let upper = c.in-Some-None.halves.1 in
-    c.split-range.ensures listed
+    c.split_range.ensures listed
     ∙ split_is w r c.requires.lowest (range_ranks rank lower) (range_ranks rank upper) (lower_ranks rank c.args.range lower upper halves)
     (upper_ranks rank c.args.range lower upper halves)
     ∙ sym (ap (λ hint. after_hint r (option_map rank hint) w) c.in-Some-None.is-1)

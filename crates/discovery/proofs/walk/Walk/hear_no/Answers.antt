@@ -25,7 +25,7 @@ returns-in-Some g c = λ listed.
     let lower = c.in-Some.halves.0 in
     let upper = c.in-Some.halves.1 in
     let halves = c.in-Some.ensures in
-    c.split-range.ensures listed
+    c.split_range.ensures listed
     ∙ split_is (standing rank w listed) (range_ranks rank range) c.requires.lowest (range_ranks rank lower) (range_ranks rank upper)
     (lower_ranks rank range lower upper halves)
     (upper_ranks rank range lower upper halves)

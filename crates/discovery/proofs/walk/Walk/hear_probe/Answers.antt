@@ -16,7 +16,7 @@ returns-in-Silent g c =
     let rank = g.K.Family.rank in
     let w = c.args.self.now in
     let listed = row_ranks rank (rows_of c.args.book.now) in
-    c.drop-range.ensures listed
+    c.drop_range.ensures listed
     ∙ probe_heard_silent w.phase (ranks_of rank w.pending) (range_ranks rank c.args.range) (option_map rank w.hushing) listed w.questions
     c.requires.walking
     c.requires.lowest
@@ -29,7 +29,7 @@ returns-in-Clear g c =
     let w = c.args.self.now in
     let listed = row_ranks rank (rows_of c.args.book.now) in
     let range = range_ranks rank c.args.range in
-    c.hear-loud.ensures listed
+    c.hear_loud.ensures listed
     ∙ ap (λ hint. after_loud range hint (standing rank w listed)) c.hint.ensures
     ∙ probe_heard_loud w.phase (ranks_of rank w.pending) range (option_map rank w.hushing) listed w.questions c.requires.walking
     c.requires.lowest

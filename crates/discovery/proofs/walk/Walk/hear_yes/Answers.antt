@@ -13,13 +13,13 @@ use Rattle.discovery.proofs.Rows.{free_place, ranks_listed, book_same, book_more
 use Rattle.discovery.proofs.Stacks.{few_pending}
 use Rattle.discovery.proofs.walk.Walk.hear_yes.Goals as goal
 
-pub returns-then-is-listed : goal.returns-then-is-listed
-returns-then-is-listed g c =
+pub returns-then-is_listed : goal.returns-then-is_listed
+returns-then-is_listed g c =
     let rank = g.K.Family.rank in
     let w = c.args.self.now in
     let book = c.args.book.now in
     let listed = row_ranks rank (rows_of book) in
-    let is = sym c.if-is-listed.ensures in
+    let is = sym c.if-is_listed.ensures in
     record {
       walk =
           c.end.ensures listed
@@ -39,7 +39,7 @@ returns-then-not-list g c =
     let book = c.args.book.now in
     let after = c.list.new.self in
     let listed = row_ranks rank (rows_of book) in
-    let new = sym c.if-is-listed.ensures in
+    let new = sym c.if-is_listed.ensures in
     let kept = c.if-not-list.ensures in
     let full : ltb (length listed) (places_of book) ≡ false = free_place rank book ∙ sym kept.answer in
     let same : row_ranks rank (rows_of after) ≡ listed = λ i. row_ranks rank (take (kept.count i) (kept.memory i)) in
@@ -57,21 +57,21 @@ returns-then-not-list g c =
       book = book_same rank c.args.key book after _ (ap (λ t. not t && ltb (length listed) (places_of book)) new ∙ full) kept.count kept.memory;
     }
 
-pub returns-then-is-below : goal.returns-then-is-below
-returns-then-is-below g c =
+pub returns-then-is_below : goal.returns-then-is_below
+returns-then-is_below g c =
     let rank = g.K.Family.rank in
     let w = c.args.self.now in
     let book = c.args.book.now in
     let after = c.list.new.self in
     let listed = row_ranks rank (rows_of book) in
-    let new = sym c.if-is-listed.ensures in
+    let new = sym c.if-is_listed.ensures in
     let more = c.if-not-list.ensures in
     let free : ltb (length listed) (places_of book) ≡ true = free_place rank book ∙ sym more.answer in
     let now-listed = ranks_listed rank book c.args.key after (ltb-true _ _ (sym more.answer)) more.count more.memory in
     record {
       walk =
-          ap (standing rank c.probe-again.new.self) now-listed
-          ∙ c.probe-again.ensures (put_in (rank c.args.key) listed)
+          ap (standing rank c.probe_again.new.self) now-listed
+          ∙ c.probe_again.ensures (put_in (rank c.args.key) listed)
           ∙ yes_of_several w.phase (ranks_of rank w.pending) (range_ranks rank c.args.range) (option_map rank w.hushing) listed w.questions c.requires.walking
           c.requires.lowest
           (few_pending rank w.pending)
@@ -79,25 +79,25 @@ returns-then-is-below g c =
           (rank c.args.key)
           new
           free
-          (ltb-true _ _ (sym c.if-is-below.ensures));
+          (ltb-true _ _ (sym c.if-is_below.ensures));
       book = book_more rank c.args.key book after _ (ap (λ t. not t && ltb (length listed) (places_of book)) new ∙ free) more.count more.memory;
     }
 
-pub returns-else-is-below : goal.returns-else-is-below
-returns-else-is-below g c =
+pub returns-else-is_below : goal.returns-else-is_below
+returns-else-is_below g c =
     let rank = g.K.Family.rank in
     let w = c.args.self.now in
     let book = c.args.book.now in
     let after = c.list.new.self in
     let listed = row_ranks rank (rows_of book) in
-    let new = sym c.if-is-listed.ensures in
+    let new = sym c.if-is_listed.ensures in
     let more = c.if-not-list.ensures in
     let free : ltb (length listed) (places_of book) ≡ true = free_place rank book ∙ sym more.answer in
     let now-listed = ranks_listed rank book c.args.key after (ltb-true _ _ (sym more.answer)) more.count more.memory in
     record {
       walk =
-          ap (standing rank c.drop-range.new.self) now-listed
-          ∙ c.drop-range.ensures (put_in (rank c.args.key) listed)
+          ap (standing rank c.drop_range.new.self) now-listed
+          ∙ c.drop_range.ensures (put_in (rank c.args.key) listed)
           ∙ yes_of_one w.phase (ranks_of rank w.pending) (range_ranks rank c.args.range) (option_map rank w.hushing) listed w.questions c.requires.walking
           c.requires.lowest
           (few_pending rank w.pending)
@@ -105,6 +105,6 @@ returns-else-is-below g c =
           (rank c.args.key)
           new
           free
-          (ltb-false _ _ (sym c.if-is-below.ensures));
+          (ltb-false _ _ (sym c.if-is_below.ensures));
       book = book_more rank c.args.key book after _ (ap (λ t. not t && ltb (length listed) (places_of book)) new ∙ free) more.count more.memory;
     }

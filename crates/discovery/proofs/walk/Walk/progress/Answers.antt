@@ -14,6 +14,6 @@ returns g c =
     let laws = laws_from met.same_rank_same_key met.no_rank_above_top met.every_rank_up_to_top met.top_below_power met.levels_in_bounds in
     record {
       value = λ i. record { phase = c.args.self.now.phase; listed = c.count.ensures i; questions = c.args.self.now.questions };
-      keeps-in-bounds = λ answered. in_bounds f.levels f.top places met.levels_in_bounds.1 met.top_below_power w answered;
+      keeps_in_bounds = λ answered. in_bounds f.levels f.top places met.levels_in_bounds.1 met.top_below_power w answered;
       finds_every_fixture = λ m reached. finds_every_fixture f.rank f.levels f.top places laws (omega arith) m w reached;
     }

@@ -5,10 +5,10 @@ use Rattle.walk_law.specs.Walk.{ended}
 use Rattle.walk_law.specs.declared.phase.Phase.TheVariants.{Contradicted}
 use Rattle.discovery.proofs.walk.Walk.split_range.Goals as goal
 
-pub returns-else-replace-first : goal.returns-else-replace-first
-returns-else-replace-first g c = λ listed.
+pub returns-else-replace_first : goal.returns-else-replace_first
+returns-else-replace_first g c = λ listed.
     let w = c.args.self.now in
-    let no-memory = c.if-replace-first.ensures in
+    let no-memory = c.if-replace_first.ensures in
     c.end.ensures listed
     ∙ ap (λ ranges. ended Contradicted (record { phase = w.phase; pending = ranges; hushing = option_map g.K.Family.rank w.hushing; listed = listed; questions = w.questions })) no-memory.after
     ∙ sym (cond-false _ _ _ (sym no-memory.answer))

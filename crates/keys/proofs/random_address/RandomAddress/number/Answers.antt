@@ -3,4 +3,4 @@ use Rattle.keys.specs.RandomAddresses.{orders_agree}
 use Rattle.keys.proofs.random_address.RandomAddress.number.Goals as goal
 
 pub returns : goal.returns
-returns c = record { value = refl; ordered-as-keys = λ other. sym (orders_agree c.args.self other) }
+returns c = record { value = refl; ordered_as_keys = λ other. sym (orders_agree c.args.self other) }

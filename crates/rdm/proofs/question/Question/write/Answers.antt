@@ -9,11 +9,11 @@ pub returns : goal.returns
 returns c =
     let q = c.args.self in
     let tn = c.args.transaction in
-    let done = c.write-whole.ensures in
+    let done = c.write_whole.ensures in
     record {
       answer = done.answer;
       after = done.after;
-      reads-back =
+      reads_back =
           written_result (question_refusal q) (question_frame q tn) _ _ _ (λ bytes. question_at bytes ≡ Some (heard q tn))
           done.answer done.after (question_reads_back q tn (search rules));
     }

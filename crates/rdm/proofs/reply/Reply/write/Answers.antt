@@ -9,11 +9,11 @@ pub returns : goal.returns
 returns c =
     let reply = c.args.self in
     let q = c.args.question in
-    let done = c.write-whole.ensures in
+    let done = c.write_whole.ensures in
     record {
       answer = done.answer;
       after = done.after;
-      reads-back =
+      reads_back =
           λ to-us from_key.
           written_result None (reply_frame reply q) _ _ _
           (λ bytes. reply_at (expected_by reply q) bytes ≡ Ok (response_of reply, 24, reply_payload reply))

@@ -2,8 +2,8 @@ use Rattle.std.proofs.Common.{◌≡◌, true, rules}
 use Rattle.rdm_line.proofs.Tables.{still_distinct, still_sound, muted_live}
 use Rattle.rdm_line.proofs.line.RdmLine.ask.Goals as goal
 
-pub invariant-of-self : goal.invariant-of-self
-invariant-of-self c =
+pub invariant_of-self : goal.invariant_of-self
+invariant_of-self c =
     let line = c.args.self.now in
     let live : line.live ≡ true = search rules in
     let table = c.ask.ensures.table in (

@@ -4,11 +4,11 @@ use Rattle.rdm_line.proofs.Makings.{mode_in_bounds, mode_above, too_many, one_un
 use Rattle.rdm_line.proofs.Tables.{muted_live}
 use Rattle.rdm_line.proofs.line.RdmLine.new.Goals as goal
 
-pub returns-in-default : goal.returns-in-default
-returns-in-default c =
+pub returns-in_default : goal.returns-in_default
+returns-in_default c =
     let keys = c.args.keys.now in
     let widths = c.args.widths.now in
-    above_limit keys widths c.args.mode c.if-keys-widths.false (mode_above keys widths c.args.mode c.in-default.ensures)
+    above_limit keys widths c.args.mode c.if-keys-widths.false (mode_above keys widths c.args.mode c.in_default.ensures)
 
 pub returns-then-keys-gt-PLACES : goal.returns-then-keys-gt-PLACES
 returns-then-keys-gt-PLACES c =
@@ -16,29 +16,29 @@ returns-then-keys-gt-PLACES c =
     let widths = c.args.widths.now in
     above_limit keys widths c.args.mode c.if-keys-widths.false (too_many keys widths c.args.mode c.if-keys-gt-PLACES.true)
 
-pub returns-in-default-fit : goal.returns-in-default-fit
-returns-in-default-fit c =
+pub returns-in_default-fit : goal.returns-in_default-fit
+returns-in_default-fit c =
     let keys = c.args.keys.now in
     let widths = c.args.widths.now in
-    above_limit keys widths c.args.mode c.if-keys-widths.false (one_unfit keys widths c.args.mode c.in-default-fit.ensures)
+    above_limit keys widths c.args.mode c.if-keys-widths.false (one_unfit keys widths c.args.mode c.in_default-fit.ensures)
 
-pub returns-then-not-are-distinct : goal.returns-then-not-are-distinct
-returns-then-not-are-distinct c =
+pub returns-then-not-are_distinct : goal.returns-then-not-are_distinct
+returns-then-not-are_distinct c =
     key_twice c.args.keys.now c.args.widths.now c.args.mode c.if-keys-widths.false
     (omega (arith, mode_in_bounds c.in-Some.mode, c.in-Some.ensures))
     c.if-keys-gt-PLACES.false
     c.in-Some-fit.ensures.0
-    (sym c.are-distinct.ensures ∙ c.if-not-are-distinct.true)
+    (sym c.are_distinct.ensures ∙ c.if-not-are_distinct.true)
 
-pub invariant-of-result : goal.invariant-of-result
-invariant-of-result c =
+pub invariant_of-result : goal.invariant_of-result
+invariant_of-result c =
     let keys = c.args.keys.now in
     let widths = c.args.widths.now in
     let table = c.in-Some-fit.ensures in
     let fitted = take (length keys) c.in-Some-fit.fixtures in (
       c.if-keys-gt-PLACES.false,
       (
-        delivered_apart keys widths fitted table.1 (sym c.are-distinct.ensures ∙ c.if-not-are-distinct.false),
+        delivered_apart keys widths fitted table.1 (sym c.are_distinct.ensures ∙ c.if-not-are_distinct.false),
         (delivered_all_sound keys widths fitted table.1 c.if-keys-widths.false table.0, (muted_live true fitted refl, tt)),
       ),
     )
@@ -50,7 +50,7 @@ returns c =
           (omega (arith, mode_in_bounds c.in-Some.mode, c.in-Some.ensures))
           c.if-keys-gt-PLACES.false
           table.0
-          (sym c.are-distinct.ensures ∙ c.if-not-are-distinct.false),
+          (sym c.are_distinct.ensures ∙ c.if-not-are_distinct.false),
       record {
         fixtures_fresh = table.1;
         others_empty = table.2;

@@ -6,11 +6,11 @@ use Rattle.dali_line.proofs.Standing.{stands_withdrawn}
 use Rattle.dali_line.specs.Tables.{lent_changed}
 use Rattle.dali_line.proofs.line.calls.DaliLineLine.hush.Goals as goal
 
-pub invariant-of-self : goal.invariant-of-self
-invariant-of-self c =
+pub invariant_of-self : goal.invariant_of-self
+invariant_of-self c =
     let line = c.args.self.now in
     let n = random_number c.args.key in
-    let units = lent_changed (withdrawn_at n) line.count line.units c.withdraw.new.units c.withdraw.ensures.units-after in
+    let units = lent_changed (withdrawn_at n) line.count line.units c.withdraw.new.units c.withdraw.ensures.units_after in
     let (distinct, states) = stands_withdrawn line _ n units in
     (line.within, (distinct, (states, tt)))
 
@@ -19,9 +19,9 @@ returns c =
     let line = c.args.self.now in
     let key = c.args.key in
     let n = random_number key in
-    let units = lent_changed (withdrawn_at n) line.count line.units c.withdraw.new.units c.withdraw.ensures.units-after in
+    let units = lent_changed (withdrawn_at n) line.count line.units c.withdraw.new.units c.withdraw.ensures.units_after in
     record {
       answer = c.withdraw.ensures.answer ∙ hush_answer_is line key;
       after = means_hushed key line _ units;
-      table-and-bus-after = record { units_then = units; count_then = refl; live_then = refl; bus_then = c.withdraw.ensures.bus-after };
+      table_and_bus_after = record { units_then = units; count_then = refl; live_then = refl; bus_then = c.withdraw.ensures.bus_after };
     }

@@ -12,10 +12,10 @@ use Rattle.dali_line.proofs.Standing.{stands_same}
 use Rattle.dali_line.specs.Tables.{lent_same}
 use Rattle.dali_line.proofs.line.calls.DaliLineLine.probe.Goals as goal
 
-pub invariant-of-self : goal.invariant-of-self
-invariant-of-self c =
+pub invariant_of-self : goal.invariant_of-self
+invariant_of-self c =
     let line = c.args.self.now in
-    let units = lent_same line.count line.units c.compare.new.units c.compare.ensures.units-after in
+    let units = lent_same line.count line.units c.compare.new.units c.compare.ensures.units_after in
     let (distinct, states) = stands_same line _ units in
     (line.within, (distinct, (states, tt)))
 
@@ -28,24 +28,24 @@ pub returns-then-compare : goal.returns-then-compare
 returns-then-compare c =
     let line = c.args.self.now in
     let range = c.args.range in
-    let units = lent_same line.count line.units c.compare.new.units c.compare.ensures.units-after in
+    let units = lent_same line.count line.units c.compare.new.units c.compare.ensures.units_after in
     let answer = answered line range true c.if-compare.ensures.answer in
     record {
       same = means_same line _ units;
       answer = answer_probed line range Garbled answer;
-      garbled-exactly-if-an-enabled-unit-is-at-or-below-hi = answer;
-      table-and-bus-after = record { units_then = units; count_then = refl; live_then = refl; bus_then = c.compare.ensures.bus-after };
+      garbled_exactly_if_an_enabled_unit_is_at_or_below_hi = answer;
+      table_and_bus_after = record { units_then = units; count_then = refl; live_then = refl; bus_then = c.compare.ensures.bus_after };
     }
 
 pub returns-else-compare : goal.returns-else-compare
 returns-else-compare c =
     let line = c.args.self.now in
     let range = c.args.range in
-    let units = lent_same line.count line.units c.compare.new.units c.compare.ensures.units-after in
+    let units = lent_same line.count line.units c.compare.new.units c.compare.ensures.units_after in
     let answer = answered line range false c.if-compare.ensures.answer in
     record {
       same = means_same line _ units;
       answer = answer_probed line range Silent answer;
-      garbled-exactly-if-an-enabled-unit-is-at-or-below-hi = answer;
-      table-and-bus-after = record { units_then = units; count_then = refl; live_then = refl; bus_then = c.compare.ensures.bus-after };
+      garbled_exactly_if_an_enabled_unit_is_at_or_below_hi = answer;
+      table_and_bus_after = record { units_then = units; count_then = refl; live_then = refl; bus_then = c.compare.ensures.bus_after };
     }

@@ -4,29 +4,29 @@ use Rattle.dali_line.proofs.Standing.{stands_same}
 use Rattle.dali_line.specs.Tables.{lent_same}
 use Rattle.dali_line.proofs.line.calls.DaliLineLine.query.Goals as goal
 
-pub invariant-of-self : goal.invariant-of-self
-invariant-of-self c =
+pub invariant_of-self : goal.invariant_of-self
+invariant_of-self c =
     let line = c.args.self.now in
-    let units = lent_same line.count line.units c.query-address.new.units c.query-address.ensures.units-after in
+    let units = lent_same line.count line.units c.query_address.new.units c.query_address.ensures.units_after in
     let (distinct, states) = stands_same line _ units in
     (line.within, (distinct, (states, tt)))
 
 pub returns-in-Some : goal.returns-in-Some
 returns-in-Some c =
     let line = c.args.self.now in
-    let units = lent_same line.count line.units c.query-address.new.units c.query-address.ensures.units-after in
+    let units = lent_same line.count line.units c.query_address.new.units c.query_address.ensures.units_after in
     record {
       same = means_same line _ units;
       answer = ap Some c.footprint.ensures ∙ query_answer_is line c.args.key (Some c.in-Some.address) c.in-Some.ensures.answer;
-      table-and-bus-after = record { units_then = units; count_then = refl; live_then = refl; bus_then = c.query-address.ensures.bus-after };
+      table_and_bus_after = record { units_then = units; count_then = refl; live_then = refl; bus_then = c.query_address.ensures.bus_after };
     }
 
 pub returns-in-None : goal.returns-in-None
 returns-in-None c =
     let line = c.args.self.now in
-    let units = lent_same line.count line.units c.query-address.new.units c.query-address.ensures.units-after in
+    let units = lent_same line.count line.units c.query_address.new.units c.query_address.ensures.units_after in
     record {
       same = means_same line _ units;
       answer = query_answer_is line c.args.key None c.in-None.ensures.answer;
-      table-and-bus-after = record { units_then = units; count_then = refl; live_then = refl; bus_then = c.query-address.ensures.bus-after };
+      table_and_bus_after = record { units_then = units; count_then = refl; live_then = refl; bus_then = c.query_address.ensures.bus_after };
     }

@@ -9,12 +9,12 @@ use Rattle.dali_line.proofs.Standing.{stands_addressed}
 use Rattle.dali_line.specs.Tables.{lent_changed}
 use Rattle.dali_line.proofs.line.calls.DaliLineLine.set.Goals as goal
 
-pub invariant-of-self : goal.invariant-of-self
-invariant-of-self c =
+pub invariant_of-self : goal.invariant_of-self
+invariant_of-self c =
     let line = c.args.self.now in
     let n = random_number c.args.key in
     let a = c.in-Some.short in
-    let units = lent_changed (addressed_at n a) line.count line.units c.program.new.units c.program.ensures.units-after in
+    let units = lent_changed (addressed_at n a) line.count line.units c.program.new.units c.program.ensures.units_after in
     let (distinct, states) = stands_addressed line _ n a units in
     (line.within, (distinct, (states, tt)))
 
@@ -25,16 +25,16 @@ returns-in-Some c =
     let n = random_number key in
     let a = c.in-Some.short in
     let slot = c.in-Some.ensures in
-    let units = lent_changed (addressed_at n a) line.count line.units c.program.new.units c.program.ensures.units-after in
+    let units = lent_changed (addressed_at n a) line.count line.units c.program.new.units c.program.ensures.units_after in
     record {
       answer = c.program.ensures.answer ∙ one_told_is line key ∙ sym (set_answer_is key c.args.address line a slot);
       after = means_addressed key c.args.address line _ a slot units;
-      table-and-bus-after = record {
+      table_and_bus_after = record {
         sent = λ b same. record {
           units_then = units ∙ ap (λ s. changed (addressed_at n s) line) (same_short a b (slot ∙ sym same));
           count_then = refl;
           live_then = refl;
-          bus_then = c.program.ensures.bus-after;
+          bus_then = c.program.ensures.bus_after;
         };
         not_sent = λ outside. absurd (both_ways _ outside (short_in_family a c.args.address slot));
       };
@@ -49,5 +49,5 @@ returns-in-None c =
     record {
       answer = sym (set_answer_no key address line outside);
       after = means_not_addressed key address line outside;
-      table-and-bus-after = record { sent = λ b same. absurd (both_ways _ outside (short_in_family b address same)); not_sent = λ _. refl };
+      table_and_bus_after = record { sent = λ b same. absurd (both_ways _ outside (short_in_family b address same)); not_sent = λ _. refl };
     }

@@ -17,19 +17,19 @@ pub returns-in-Open : goal.returns-in-Open
 returns-in-Open g c =
     rw c.in-Open.is
     record {
-      makes-the-call = λ made. c.call-job.ensures;
-      or-changes-nothing = λ not. absurd (both_ways true not refl);
-      every-chain-goes-on-as-promised = λ made.
-          goes_on g.K.Family.rank g.K.Family.levels g.K.Family.top g.K.Family.first g.K.Family.count (laws g) _ c.args.call _ c.call-job.ensures;
+      makes_the_call = λ made. c.call_job.ensures;
+      or_changes_nothing = λ not. absurd (both_ways true not refl);
+      every_chain_goes_on_as_promised = λ made.
+          goes_on g.K.Family.rank g.K.Family.levels g.K.Family.top g.K.Family.first g.K.Family.count (laws g) _ c.args.call _ c.call_job.ensures;
     }
 
-pub returns-else-not-is-open : goal.returns-else-not-is-open
-returns-else-not-is-open g c =
-    let is = open_alone c.args.call (sym c.is-open.ensures ∙ c.if-not-is-open.false) in
+pub returns-else-not-is_open : goal.returns-else-not-is_open
+returns-else-not-is_open g c =
+    let is = open_alone c.args.call (sym c.is_open.ensures ∙ c.if-not-is_open.false) in
     rw (is, c.in-Closed.is)
     record {
-      makes-the-call = λ made. opens c.open.ensures;
-      or-changes-nothing = λ not. absurd (both_ways true not refl);
-      every-chain-goes-on-as-promised = λ made.
+      makes_the_call = λ made. opens c.open.ensures;
+      or_changes_nothing = λ not. absurd (both_ways true not refl);
+      every_chain_goes_on_as_promised = λ made.
           goes_on g.K.Family.rank g.K.Family.levels g.K.Family.top g.K.Family.first g.K.Family.count (laws g) _ _ _ (opens c.open.ensures);
     }

@@ -14,7 +14,7 @@ returns c =
     let key = c.args.key in
     let table = c.ask.ensures.state ∙ hushes s key in
     record {
-      answer = c.is-yes.ensures ∙ ap₂ yes_heard c.new-expected.ensures c.ask.ensures.signal ∙ hush_heard s line.no_key_twice key;
+      answer = c.is_yes.ensures ∙ ap₂ yes_heard c.new-expected.ensures c.ask.ensures.signal ∙ hush_heard s line.no_key_twice key;
       after = ap meaning_of table ∙ hush_means s key;
-      whole-line = table;
+      whole_line = table;
     }

@@ -14,10 +14,10 @@ returns c =
     let s = state_of line in
     let range = c.args.range in
     let table = c.ask.ensures.state ∙ probes s range in
-    let exactly = c.branch-answer.ensures ∙ ap branch_heard c.ask.ensures.signal ∙ probe_heard s range in
+    let exactly = c.branch_answer.ensures ∙ ap branch_heard c.ask.ensures.signal ∙ probe_heard s range in
     record {
       same = ap meaning_of table;
-      answer = probed s range line.no_key_twice (means_sound s line.fixtures_sound line.muted_while_shut) c.branch-answer.result exactly;
-      whole-line = table;
+      answer = probed s range line.no_key_twice (means_sound s line.fixtures_sound line.muted_while_shut) c.branch_answer.result exactly;
+      whole_line = table;
       exactly = exactly;
     }

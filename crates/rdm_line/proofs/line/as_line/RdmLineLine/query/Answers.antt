@@ -18,5 +18,5 @@ returns c =
           c.footprint.ensures
           ∙ ap₂ footprint_heard c.new-expected.ensures c.ask.ensures.signal
           ∙ query_heard s line.no_key_twice line.fixtures_sound key;
-      whole-line = table;
+      whole_line = table;
     }

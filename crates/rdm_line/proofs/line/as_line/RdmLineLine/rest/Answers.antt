@@ -6,8 +6,8 @@ use Rattle.rdm_line.specs.Meanings.{rest_means}
 use Rattle.rdm_line.proofs.States.{rests, rests_muted}
 use Rattle.rdm_line.proofs.line.as_line.RdmLineLine.rest.Goals as goal
 
-pub invariant-of-self : goal.invariant-of-self
-invariant-of-self c =
+pub invariant_of-self : goal.invariant_of-self
+invariant_of-self c =
     let line = c.args.self.now in
     let asked = c.ask.new.self in
     let muted = ap (λ s. muted_unless false (fitted s)) c.ask.ensures.state ∙ rests_muted (state_of line) line.muted_while_shut in
@@ -17,4 +17,4 @@ pub returns : goal.returns
 returns c =
     let line = c.args.self.now in
     let table = ap (with_live false) c.ask.ensures.state ∙ rests (state_of line) in
-    record { after = ap meaning_of table ∙ rest_means (state_of line) line.muted_while_shut; whole-line = table }
+    record { after = ap meaning_of table ∙ rest_means (state_of line) line.muted_while_shut; whole_line = table }

@@ -6,8 +6,8 @@ use Rattle.rdm_line.proofs.States.{rouses}
 use Rattle.rdm_line.proofs.Tables.{muted_live}
 use Rattle.rdm_line.proofs.line.as_line.RdmLineLine.rouse.Goals as goal
 
-pub invariant-of-self : goal.invariant-of-self
-invariant-of-self c =
+pub invariant_of-self : goal.invariant_of-self
+invariant_of-self c =
     let line = c.args.self.now in
     (line.count_in_bounds, (line.no_key_twice, (line.fixtures_sound, (muted_live true (take line.count line.fixtures) refl, tt))))
 
@@ -15,4 +15,4 @@ pub returns : goal.returns
 returns c =
     let line = c.args.self.now in
     let table = c.ask.ensures.state ∙ rouses (state_of line) in
-    record { after = ap meaning_of table ∙ rouse_means (state_of line); whole-line = table }
+    record { after = ap meaning_of table ∙ rouse_means (state_of line); whole_line = table }

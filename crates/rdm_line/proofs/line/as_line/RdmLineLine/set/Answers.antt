@@ -15,7 +15,7 @@ returns c =
     let a = c.args.address in
     let table = c.ask.ensures.state ∙ sets s key a in
     record {
-      answer = c.is-yes.ensures ∙ ap₂ yes_heard c.new-expected.ensures c.ask.ensures.signal ∙ set_heard key a s line.no_key_twice;
+      answer = c.is_yes.ensures ∙ ap₂ yes_heard c.new-expected.ensures c.ask.ensures.signal ∙ set_heard key a s line.no_key_twice;
       after = ap meaning_of table ∙ set_means s key a;
-      whole-line = table;
+      whole_line = table;
     }
