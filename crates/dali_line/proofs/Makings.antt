@@ -2,7 +2,7 @@
 use Rattle.std.proofs.Common.{◌≡◌, ℕ, zero, suc, ◌+◌, ◌^◌, ◌<◌, ◌≤◌, Bool, true, false, cond, ◌||◌, eqb, ltb, List, [], ◌∷◌, ◌++◌, map, length, get_or, take, drop, set, replicate, is_some, Some, None, Option, sym, refl, ap, ◌∙◌, append_assoc, arith}
 use native.Mathlib.Bridge.{le_prop}
 use Rattle.std.proofs.lemmas.List.{length-map, length-take-le, take_at, take_more, drop_more, set_at, map_push}
-use Rattle.std.proofs.lemmas.Bool.{and_parts, or_parts, lt-ltb, ltb-false}
+use Rattle.std.proofs.lemmas.Bool.{and_parts, or_parts, lt-ltb, le-ltb, ltb-false}
 use Rattle.std.proofs.lemmas.Bool.Decides.{nat_tests}
 use Rattle.std.specs.Option.{option_map}
 use Rattle.refusals.specs.declared.Refusal.TheVariants.{Malformed, AboveLimit, KeyTwice}
@@ -17,7 +17,7 @@ use Rattle.dali_line.specs.Table.{unit_number, is_among, has_twice, all_fit, uni
 
 -- A number that has a key is one of a key.
 pub numbered_is : (n : ℕ) (key : Option RandomAddress) → RandomNumbered n key → is_random_number n ≡ is_some key
-numbered_is n None e = e
+numbered_is n None e = le-ltb n _ e
 numbered_is n (Some key) e = lt-ltb n _ (omega arith)
 
 pub every_at : (test : ℕ → Bool) (ns : List ℕ) (i : ℕ) → i < length ns → every test ns ≡ true → test (get_or ns i 0) ≡ true

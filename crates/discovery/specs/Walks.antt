@@ -55,5 +55,5 @@ after_loud r hint w = cond (law.is_one r) (with_hush r.lo w) (after_hint r hint 
 -- The key that an answer to a probe hints at: one of the range that is not listed.
 abbrev pub hinted : Range ℕ → List ℕ → ProbeAnswer ℕ → Option ℕ
 hinted r listed Silent = None
-hinted r listed (Clear k) = cond (law.in-range k r && not (is_in k listed)) (Some k) None
+hinted r listed (Clear k) = cond (law.in_range k r && not (is_in k listed)) (Some k) None
 hinted r listed Garbled = None

@@ -1,5 +1,5 @@
 -- Each call leads from what is good to what is good.
-use Rattle.std.proofs.Common.{◌≡◌, ℕ, suc, ◌+◌, ◌-◌, ◌*◌, ◌^◌, ◌<◌, ◌≤◌, min, Bool, true, false, cond, not, ◌&&◌, eqb, ltb, ◌⊎◌, List, [], ◌∷◌, ◌++◌, map, length, take, drop, is_some, IfSome as found, Some, None, sum, Option, Result, sym, refl, ap, ◌∙◌, subst, inl, inr, mul-le-mul, arith}
+use Rattle.std.proofs.Common.{◌≡◌, ℕ, suc, ◌+◌, ◌-◌, ◌*◌, ◌^◌, ◌<◌, ◌≤◌, min, Bool, true, false, cond, not, ◌&&◌, eqb, ltb, ◌⊎◌, List, [], ◌∷◌, ◌++◌, map, length, take, drop, is_some, IfSome, Some, None, sum, Option, Result, sym, refl, ap, ◌∙◌, subst, inl, inr, mul-le-mul, arith}
 use Rattle.std.proofs.lemmas.List.{length-append, length-drop, length-take-le, take_at}
 use Rattle.std.proofs.lemmas.Bool.{and_parts, and_from, eq-eqb, ltb-false, not-false, cond-true, cases_Bool, both_ways}
 use Rattle.std.specs.Option.{option_map}
@@ -95,7 +95,7 @@ module _ {K : Type 0} (rank : K → ℕ) (levels top first count : ℕ) (laws : 
         f,
         at,
         sym (ap width_of (ap (λ l. cond l (option_map footprint_of (m.at k)) None) live ∙ ap (option_map footprint_of) at)),
-        subst (λ o. found o (λ g. g.width ≡ 0 → g.address ≡ None)) at (bare k),
+        subst (λ o. IfSome o (λ g. g.width ≡ 0 → g.address ≡ None)) at (bare k),
       )
       by true None live at some = absurd (both_ways false refl some)
       by false o live at some = absurd (both_ways false refl some)

@@ -35,14 +35,14 @@ Bare {K} m = (k : K) → IfSome (m.at k) (λ f. f.width ≡ 0 → f.address ≡ 
 module _ {K : Type 0} (rank : K → ℕ) (levels top first count : ℕ) where
   -- The rows are numbered by the rule, as the line has their widths.
   pub record LaidWell (s : Scene K) : Type 0 where
-    pub IfSome : Found rank levels top (places s) s.line s.walk.listed s.walk.questions
+    pub found : Found rank levels top (places s) s.line s.walk.listed s.walk.questions
     pub numbered : NumberedFrom first (rows s)
     pub enough : sum (widths (rows s)) ≤ count
     pub on_line : All (OnLine s.line) (rows s)
 
   -- And their fixtures hold the addresses.
   pub record SetWell (s : Scene K) : Type 0 where
-    pub IfSome : Found rank levels top (places s) s.line s.walk.listed s.walk.questions
+    pub found : Found rank levels top (places s) s.line s.walk.listed s.walk.questions
     pub numbered : NumberedFrom first (rows s)
     pub enough : sum (widths (rows s)) ≤ count
     pub held : All (HoldsAddress s.line) (rows s)

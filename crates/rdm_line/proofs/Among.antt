@@ -1,5 +1,5 @@
 -- Numbers that stand twice.
-use Rattle.std.proofs.Common.{◌≡◌, ℕ, ◌+◌, ◌-◌, ◌<◌, ◌≤◌, Bool, true, false, not, ◌&&◌, eqb, List, length, get_or, take, drop, Decides, sym, refl, ap, ◌∙◌}
+use Rattle.std.proofs.Common.{◌≡◌, ℕ, ◌+◌, ◌-◌, ◌<◌, ◌≤◌, Bool, true, false, not, ◌&&◌, eqb, List, length, get_or, take, drop, sym, refl, ap, ◌∙◌}
 use Rattle.std.proofs.lemmas.List.Elements.{contains_decides}
 use Rattle.std.proofs.lemmas.List.{at_drop_more, at_drop_all, take_rest}
 use Rattle.std.proofs.lemmas.Bool.Decides.{same_from_decides, Decides-by_or, Decides-like, Decides-eqb}
@@ -8,7 +8,7 @@ use Rattle.octets.proofs.Every.{first_lacks, first_has}
 use Rattle.rdm_line.specs.Table.{among, distinct}
 
 -- What a search through a list tells.
-pub among_contains : (n : ℕ) (ms : List ℕ) (r : Bool) → IsAnyAnswer (λ m t. Decides t (m ≡ n)) ms r → r ≡ among n ms
+pub among_contains : (n : ℕ) (ms : List ℕ) (r : Bool) → IsAnyAnswer (λ m t. eqb m n ≡ t) ms r → r ≡ among n ms
 among_contains n ms r found =
     same_from_decides r (among n ms) (contains_decides eqb Decides-eqb ms n r found)
     (Decides-by_or (eqb n) (λ m. m ≡ n) (among n) (λ m. Decides-like (eqb n m) sym sym (Decides-eqb n m)) refl (λ _ _. refl) ms)

@@ -1,5 +1,5 @@
 -- What is read of the reply of the one fixture that was asked.
-use Rattle.std.proofs.Common.{◌≡◌, ℕ, ◌+◌, ◌-◌, ◌*◌, ◌/◌, ◌%◌, ◌^◌, ◌≤◌, Bool, true, false, cond, ◌&&◌, eqb, leb, is_some, IfSome, Some, None, Ok, Option, sym, refl, ap, ◌∙◌, ap₂, arith}
+use Rattle.std.proofs.Common.{◌≡◌, ℕ, ◌+◌, ◌-◌, ◌*◌, ◌/◌, ◌%◌, ◌^◌, ◌<◌, ◌≤◌, Bool, true, false, cond, ◌&&◌, eqb, leb, is_some, IfSome, Some, None, Ok, Option, sym, refl, ap, ◌∙◌, subst, ap₂, arith}
 use Rattle.std.proofs.lemmas.Bool.{lt-ltb, and_parts, leb-true, ne_eqb}
 use Rattle.std.proofs.lemmas.Bool.Decides.{nat_tests}
 use Rattle.std.specs.Option.{option_map}
@@ -41,7 +41,7 @@ reply_read : (q : Question) (key : Uid) → destination_of q ≡ One key → (re
     → reply_at (expected_by reply (heard q 0)) (reply_frame reply (heard q 0)) ≡ Ok (response_of reply, 24, reply_payload reply)
 reply_read q key to_one reply =
     reply_reads_back reply (heard q 0) (omega arith) refl
-    (ap (λ d. is_uid_number (destination_number d)) to_one ∙ lt-ltb (uid_number key) (2 ^ 48 - 1) key.key)
+    (subst (λ d. destination_number d < 2 ^ 48 - 1) (sym to_one) key.key)
 
 -- hush
 module _ (s : State) (apart : keys_distinct (fitted s) ≡ true) where

@@ -119,25 +119,25 @@ module _ (s : State) where
 
 -- set
 abbrev moved_there : Address → Fitted → Fitted
-moved_there a t = cond (t.width == 0) t (rules.with-address a t)
+moved_there a t = cond (t.width == 0) t (rules.with_address a t)
 
 seen_moved : (a : Address) (f : Fixture) → seen (moved_to a f) ≡ moved_there a (seen f)
 seen_moved a f = by (f.width == 0)
   where
-    by : (narrow : Bool) → seen (cond narrow f (with_address a f)) ≡ cond narrow (seen f) (rules.with-address a (seen f))
+    by : (narrow : Bool) → seen (cond narrow f (with_address a f)) ≡ cond narrow (seen f) (rules.with_address a (seen f))
     by true = refl
     by false = refl
 
 moved_key : (a : Address) (f : Fixture) → (moved_to a f).key ≡ f.key
 moved_key a f = cond_both (f.width == 0) f (with_address a f) (λ g. g.key ≡ f.key) (λ _. refl) (λ _. refl)
 
-wide_moves : (a : Address) (o : Option Fitted) → wide_there o ≡ true → option_map (moved_there a) o ≡ option_map (rules.with-address a) o
+wide_moves : (a : Address) (o : Option Fitted) → wide_there o ≡ true → option_map (moved_there a) o ≡ option_map (rules.with_address a) o
 wide_moves a None e = refl
-wide_moves a (Some t) e = ap Some (cond-false (t.width == 0) t (rules.with-address a t) (grind (arith, nat_tests)))
+wide_moves a (Some t) e = ap Some (cond-false (t.width == 0) t (rules.with_address a t) (grind (arith, nat_tests)))
 
 narrow_stays : (a : Address) (o : Option Fitted) → wide_there o ≡ false → option_map (moved_there a) o ≡ o
 narrow_stays a None e = refl
-narrow_stays a (Some t) e = ap Some (cond-true (t.width == 0) t (rules.with-address a t) (grind (arith, nat_tests)))
+narrow_stays a (Some t) e = ap Some (cond-true (t.width == 0) t (rules.with_address a t) (grind (arith, nat_tests)))
 
 module _ (s : State) where
   pub set_means : (key : Uid) (a : Address) → meaning_of (addressed_state key a s) ≡ addressed uid_rank 1 512 (meaning_of s) key a
@@ -145,16 +145,16 @@ module _ (s : State) where
   set_means key a = by s.live (in_family 1 512 a)
     where
       by : (live inside : Bool) → meaning_of (cond (live && inside) (with_fitted (map (at_key key (moved_to a))) s) s)
-          ≡ cond (live && (wide_there (option_map seen (fixture_at (fitted s) key)) && inside)) (changed_at uid_rank key (rules.with-address a) (meaning_of s)) (meaning_of s)
+          ≡ cond (live && (wide_there (option_map seen (fixture_at (fitted s) key)) && inside)) (changed_at uid_rank key (rules.with_address a) (meaning_of s)) (meaning_of s)
       by false inside = refl
-      by true false = ap (λ t. cond t (changed_at uid_rank key (rules.with-address a) (meaning_of s)) (meaning_of s)) (sym (and_false (wide_there (option_map seen (fixture_at (fitted s) key)))))
+      by true false = ap (λ t. cond t (changed_at uid_rank key (rules.with_address a) (meaning_of s)) (meaning_of s)) (sym (and_false (wide_there (option_map seen (fixture_at (fitted s) key)))))
       by true true =
-          changed_if (meaning_of s) (meaning_of (with_fitted (map (at_key key (moved_to a))) s)) key (rules.with-address a) (option_map (moved_there a)) refl
+          changed_if (meaning_of s) (meaning_of (with_fitted (map (at_key key (moved_to a))) s)) key (rules.with_address a) (option_map (moved_there a)) refl
           (changed_there s key (moved_to a) (moved_key a) (moved_there a) (seen_moved a))
           (wide_there (option_map seen (fixture_at (fitted s) key)))
           (wide_moves a (option_map seen (fixture_at (fitted s) key)))
           (narrow_stays a (option_map seen (fixture_at (fitted s) key)))
-          ∙ ap (λ t. cond t (changed_at uid_rank key (rules.with-address a) (meaning_of s)) (meaning_of s)) (sym (and_true (wide_there (option_map seen (fixture_at (fitted s) key)))))
+          ∙ ap (λ t. cond t (changed_at uid_rank key (rules.with_address a) (meaning_of s)) (meaning_of s)) (sym (and_true (wide_there (option_map seen (fixture_at (fitted s) key)))))
 
 -- What is seen of a sound fixture is sound.
 address_inside : (width : ℕ) (o : Option Address) → address_fits width o ≡ true → IfSome o (λ a. in_family 1 512 a ≡ true)

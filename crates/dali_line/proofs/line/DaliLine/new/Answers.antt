@@ -9,10 +9,12 @@ invariant_of-result c =
     let mode = c.args.mode in
     let units = c.fit.new.units in
     let none = sym c.refusal_of.ensures ∙ c.in_default.is in
-    let fitted = fitted_empty _ numbers units c.fit.ensures in (
-      not_too_many numbers widths mode none,
-      (fitted_distinct numbers units fitted (no_key_twice_lem numbers widths mode none), (fitted_shut numbers units fitted, tt)),
-    )
+    let fitted = fitted_empty _ numbers units c.fit.ensures in
+    record {
+      within = not_too_many numbers widths mode none;
+      distinct = fitted_distinct numbers units fitted (no_key_twice_lem numbers widths mode none);
+      states = fitted_shut numbers units fitted;
+    }
 
 pub returns : goal.returns
 returns c =

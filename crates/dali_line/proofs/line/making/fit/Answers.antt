@@ -1,14 +1,14 @@
-use Rattle.std.proofs.Common.{◌≡◌, [], ◌∷◌, ◌++◌, map, length, drop, set, ap, ◌∙◌, arith}
+use Rattle.std.proofs.Common.{◌≡◌, [], ◌∷◌, ◌++◌, map, length, get_or, drop, set, None, ap, ◌∙◌, arith}
 use Rattle.std.proofs.lemmas.List.{take_all}
 use Rattle.std.proofs.lemmas.Bool.{both_ways}
 use Rattle.keys.specs.KeyNumbers.{is_random_number}
 use Rattle.units.specs.Unit.{fresh_unit}
-use Rattle.dali_line.proofs.Makings.{every_at, numbers_more, units_more}
+use Rattle.dali_line.proofs.Makings.{numbered_is, every_at, numbers_more, units_more}
 use Rattle.dali_line.proofs.line.making.fit.Goals as goal
 
 pub unreachable-requires : goal.unreachable-requires
 unreachable-requires c =
-    both_ways _ c.in-None.ensures (every_at is_random_number c.args.numbers.now c.loop-i.i c.loop-i-test.true c.requires.keys)
+    both_ways _ (numbered_is (get_or c.args.numbers.now c.loop-i.i 0) None c.in-None.ensures) (every_at is_random_number c.args.numbers.now c.loop-i.i c.loop-i-test.true c.requires.keys)
 
 pub loop-i-preserved : goal.loop-i-preserved
 loop-i-preserved c =

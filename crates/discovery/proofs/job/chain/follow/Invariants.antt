@@ -11,7 +11,7 @@ use Rattle.discovery.proofs.job.chain.follow.Given as goal
 abbrev pub invariant-loop-call : goal.invariant-loop-call
 invariant-loop-call g l =
     (line : Meaning g.row.L-Key.Denot) (memory : List (Record g.row.L-Key.Denot))
-    → LeadsHere g.Key.Family.rank g.Key.Family.levels g.Key.Family.top g.Key.Family.first g.Key.Family.count line memory (Open ∷ [])
-    (state_of g.Key.Family.rank (g.L.Line.means l.initial.line) l.initial.book l.initial.newest)
-    → SomeMade g.Key.Family.rank g.Key.Family.levels g.Key.Family.top g.Key.Family.first g.Key.Family.count line memory l.calls
+    → LeadsHere g.L.Key.Family.rank g.L.Key.Family.levels g.L.Key.Family.top g.L.Key.Family.first g.L.Key.Family.count line memory (Open ∷ [])
+    (state_of g.L.Key.Family.rank (g.L.Line.means l.initial.line) l.initial.book l.initial.newest)
+    → SomeMade g.L.Key.Family.rank g.L.Key.Family.levels g.L.Key.Family.top g.L.Key.Family.first g.L.Key.Family.count line memory l.calls
     (g.L.Line.means l.line) l.book l.newest l.call-index

@@ -7,4 +7,4 @@ abbrev pub invariant-loop-row : goal.invariant-loop-row
 invariant-loop-row g l =
     let m = g.L.Line.means l.initial.line in
     (g.L.Line.means l.line ≡ m)
-    × (all_stand g.Key.Family.first g.Key.Family.count m (drop l.row-index l.rows) ≡ all_stand g.Key.Family.first g.Key.Family.count m l.rows)
+    × (all_stand g.L.Key.Family.first g.L.Key.Family.count m (drop l.row-index l.rows) ≡ all_stand g.L.Key.Family.first g.L.Key.Family.count m l.rows)

@@ -7,11 +7,11 @@ pub loop-row-preserved : goal.loop-row-preserved
 loop-row-preserved g c =
     let rows = c.args.rows.now in
     let i = c.loop-row.row-index in
-    ap (λ n. all_written g.Key.Family.rank g.Key.Family.first g.Key.Family.count n (drop (i + 1) rows)) c.write_row.ensures
-    ∙ written_next g.Key.Family.rank g.Key.Family.first g.Key.Family.count (g.L.Line.means c.loop-row.line) rows i c.row-item.result c.row-item.is c.loop-row-test.true
+    ap (λ n. all_written g.L.Key.Family.rank g.L.Key.Family.first g.L.Key.Family.count n (drop (i + 1) rows)) c.write_row.ensures
+    ∙ written_next g.L.Key.Family.rank g.L.Key.Family.first g.L.Key.Family.count (g.L.Line.means c.loop-row.line) rows i c.row-item.result c.row-item.is c.loop-row-test.true
     ∙ c.loop-row.invariant
 
 pub returns : goal.returns
 returns g c =
-    written_all g.Key.Family.rank g.Key.Family.first g.Key.Family.count (g.L.Line.means c.loop-row.line) c.args.rows.now c.loop-row.row-index (search rules)
+    written_all g.L.Key.Family.rank g.L.Key.Family.first g.L.Key.Family.count (g.L.Line.means c.loop-row.line) c.args.rows.now c.loop-row.row-index (search rules)
     ∙ c.loop-row.invariant

@@ -5,5 +5,5 @@ use Rattle.discovery.proofs.job.committing.write_rows.Given as goal
 -- With what is left written, all are.
 abbrev pub invariant-loop-row : goal.invariant-loop-row
 invariant-loop-row g l =
-    all_written g.Key.Family.rank g.Key.Family.first g.Key.Family.count (g.L.Line.means l.line) (drop l.row-index l.rows)
-    ≡ all_written g.Key.Family.rank g.Key.Family.first g.Key.Family.count (g.L.Line.means l.initial.line) l.rows
+    all_written g.L.Key.Family.rank g.L.Key.Family.first g.L.Key.Family.count (g.L.Line.means l.line) (drop l.row-index l.rows)
+    ≡ all_written g.L.Key.Family.rank g.L.Key.Family.first g.L.Key.Family.count (g.L.Line.means l.initial.line) l.rows

@@ -6,7 +6,7 @@ use Rattle.discovery.proofs.job.running.ask.Goals as goal
 
 pub returns : goal.returns
 returns g c =
-    let rank = g.Key.Family.rank in
+    let rank = g.L.Key.Family.rank in
     let m = g.L.Line.means c.args.line.now in
     let n = g.L.Line.means c.put_question-answer.new.line in
     let w = c.args.job.now.walk in
@@ -18,5 +18,5 @@ returns g c =
       is_heard = c.hear.ensures.walk;
       book_kept = λ old. book_unlisted rank book c.hear.new.book w.hushing _ c.hear.ensures.book old;
       key_listed = λ new k is.
-          book_listed rank book c.hear.new.book g.met.Key.Family.same_rank_same_key w.hushing _ c.hear.ensures.book new k is;
+          book_listed rank book c.hear.new.book g.met.L.Key.Family.same_rank_same_key w.hushing _ c.hear.ensures.book new k is;
     }

@@ -4,5 +4,5 @@ use Rattle.discovery.proofs.job.running.ask_on.Given as goal
 
 abbrev pub invariant-loop-heard : goal.invariant-loop-heard
 invariant-loop-heard g l =
-    Questions g.Key.Family.rank (scene_of g.Key.Family.rank (g.L.Line.means l.initial.line) l.initial.book l.initial.job) l.heard
-    (scene_of g.Key.Family.rank (g.L.Line.means l.line) l.book l.job)
+    Questions g.L.Key.Family.rank (scene_of g.L.Key.Family.rank (g.L.Line.means l.initial.line) l.initial.book l.initial.job) l.heard
+    (scene_of g.L.Key.Family.rank (g.L.Line.means l.line) l.book l.job)

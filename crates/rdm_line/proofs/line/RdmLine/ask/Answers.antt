@@ -6,10 +6,10 @@ pub invariant_of-self : goal.invariant_of-self
 invariant_of-self c =
     let line = c.args.self.now in
     let live : line.live ≡ true = search rules in
-    let table = c.ask.ensures.table in (
-      line.count_in_bounds,
-      (
-        still_distinct c.args.question line.fixtures _ line.count table line.no_key_twice,
-        (still_sound c.args.question line.fixtures _ line.count table line.fixtures_sound, (muted_live line.live _ live, tt)),
-      ),
-    )
+    let table = c.ask.ensures.table in
+    record {
+      count_in_bounds = line.count_in_bounds;
+      no_key_twice = still_distinct c.args.question line.fixtures _ line.count table line.no_key_twice;
+      fixtures_sound = still_sound c.args.question line.fixtures _ line.count table line.fixtures_sound;
+      muted_while_shut = muted_live line.live _ live;
+    }

@@ -35,13 +35,13 @@ invariant_of-result c =
     let keys = c.args.keys.now in
     let widths = c.args.widths.now in
     let table = c.in-Some-fit.ensures in
-    let fitted = take (length keys) c.in-Some-fit.fixtures in (
-      c.if-keys-gt-PLACES.false,
-      (
-        delivered_apart keys widths fitted table.1 (sym c.are_distinct.ensures ∙ c.if-not-are_distinct.false),
-        (delivered_all_sound keys widths fitted table.1 c.if-keys-widths.false table.0, (muted_live true fitted refl, tt)),
-      ),
-    )
+    let fitted = take (length keys) c.in-Some-fit.fixtures in
+    record {
+      count_in_bounds = c.if-keys-gt-PLACES.false;
+      no_key_twice = delivered_apart keys widths fitted table.1 (sym c.are_distinct.ensures ∙ c.if-not-are_distinct.false);
+      fixtures_sound = delivered_all_sound keys widths fitted table.1 c.if-keys-widths.false table.0;
+      muted_while_shut = muted_live true fitted refl;
+    }
 
 pub returns : goal.returns
 returns c =

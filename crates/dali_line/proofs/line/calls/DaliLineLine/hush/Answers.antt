@@ -12,7 +12,7 @@ invariant_of-self c =
     let n = random_number c.args.key in
     let units = lent_changed (withdrawn_at n) line.count line.units c.withdraw.new.units c.withdraw.ensures.units_after in
     let (distinct, states) = stands_withdrawn line _ n units in
-    (line.within, (distinct, (states, tt)))
+    record { within = line.within; distinct = distinct; states = states }
 
 pub returns : goal.returns
 returns c =

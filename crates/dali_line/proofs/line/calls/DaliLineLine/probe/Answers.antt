@@ -17,7 +17,7 @@ invariant_of-self c =
     let line = c.args.self.now in
     let units = lent_same line.count line.units c.compare.new.units c.compare.ensures.units_after in
     let (distinct, states) = stands_same line _ units in
-    (line.within, (distinct, (states, tt)))
+    record { within = line.within; distinct = distinct; states = states }
 
 -- What is answered, by whether a unit replied.
 answered : (line : DaliLine) (range : Range RandomAddress) (any : Bool) → any ≡ any_unit (compares_up_to (random_number range.hi)) (lent_units line)

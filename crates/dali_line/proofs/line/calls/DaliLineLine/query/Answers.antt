@@ -9,7 +9,7 @@ invariant_of-self c =
     let line = c.args.self.now in
     let units = lent_same line.count line.units c.query_address.new.units c.query_address.ensures.units_after in
     let (distinct, states) = stands_same line _ units in
-    (line.within, (distinct, (states, tt)))
+    record { within = line.within; distinct = distinct; states = states }
 
 pub returns-in-Some : goal.returns-in-Some
 returns-in-Some c =

@@ -11,7 +11,7 @@ invariant_of-self c =
     let line = c.args.self.now in
     let units = lent_changed (with_state Disabled) line.count line.units c.send.new.units c.send.ensures.units_then in
     let (distinct, states) = stands_disabled line _ units in
-    (line.within, (distinct, (states, tt)))
+    record { within = line.within; distinct = distinct; states = states }
 
 pub returns : goal.returns
 returns c =

@@ -11,7 +11,7 @@ invariant_of-self c =
     let line = c.args.self.now in
     let units = lent_changed (with_state Enabled) line.count line.units c.enable.new.units c.enable.ensures.units_after in
     let (distinct, states) = stands_enabled line _ units in
-    (line.within, (distinct, (states, tt)))
+    record { within = line.within; distinct = distinct; states = states }
 
 pub returns : goal.returns
 returns c =

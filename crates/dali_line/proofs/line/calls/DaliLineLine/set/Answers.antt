@@ -16,7 +16,7 @@ invariant_of-self c =
     let a = c.in-Some.short in
     let units = lent_changed (addressed_at n a) line.count line.units c.program.new.units c.program.ensures.units_after in
     let (distinct, states) = stands_addressed line _ n a units in
-    (line.within, (distinct, (states, tt)))
+    record { within = line.within; distinct = distinct; states = states }
 
 pub returns-in-Some : goal.returns-in-Some
 returns-in-Some c =

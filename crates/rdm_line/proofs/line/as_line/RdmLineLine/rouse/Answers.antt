@@ -9,7 +9,12 @@ use Rattle.rdm_line.proofs.line.as_line.RdmLineLine.rouse.Goals as goal
 pub invariant_of-self : goal.invariant_of-self
 invariant_of-self c =
     let line = c.args.self.now in
-    (line.count_in_bounds, (line.no_key_twice, (line.fixtures_sound, (muted_live true (take line.count line.fixtures) refl, tt))))
+    record {
+      count_in_bounds = line.count_in_bounds;
+      no_key_twice = line.no_key_twice;
+      fixtures_sound = line.fixtures_sound;
+      muted_while_shut = muted_live true (take line.count line.fixtures) refl;
+    }
 
 pub returns : goal.returns
 returns c =
