@@ -1,4 +1,4 @@
--- Which numbers on the wire stand for keys. Every definition that asks this asks it here.
+-- Which numbers on the wire stand for keys.
 use Rattle.std.specs.Prelude.{ℕ, ◌-◌, ◌^◌, Bool, nat_lt}
 
 -- FFFFFFFFFFFF: all fixtures, and no key.
