@@ -3,7 +3,7 @@ use Rattle.std.proofs.Common.{◌≡◌, ℕ, suc, ◌-◌, ◌^◌, ◌<◌, �
 use Rattle.std.proofs.lemmas.List.{take-append-drop, length-take, length-drop, drop_at, drop-append-le}
 use Rattle.std.proofs.ByRecursion.{All-take, All-drop}
 use Rattle.std.proofs.lemmas.Bool.{eqb-true, and_parts}
-use Rattle.std.specs.List.{AllByRecursion as All}
+use Rattle.std.specs.List.{AllByRecursion}
 use Rattle.keys.specs.Uid.{uid_number}
 use Rattle.keys.specs.declared.uid.Uid.{Uid}
 use Rattle.refusals.specs.declared.Refusal.{Refusal}
@@ -38,7 +38,7 @@ none_refused : (a b c d : Bool) (m n : ℕ)
 none_refused a b c d m n e = grind arith
 
 -- Twelve bytes that carry a number and four that carry their sum are the body of its reply.
-parts_only : (pairs sums : List ℕ) (n : ℕ) → length pairs ≡ 12 → length sums ≡ 4 → All Byte pairs → All Byte sums
+parts_only : (pairs sums : List ℕ) (n : ℕ) → length pairs ≡ 12 → length sums ≡ 4 → AllByRecursion Byte pairs → AllByRecursion Byte sums
     → bits_set pairs ≡ true → bits_set sums ≡ true → carried pairs ≡ n → carried sums ≡ checksum_of pairs
     → pairs ++ sums ≡ body_of (pairs_of (six_bytes n))
 parts_only pairs sums n lp ls sp ss bp bs key sum =
@@ -51,7 +51,7 @@ parts_only pairs sums n lp ls sp ss bp bs key sum =
     ap (λ t. pairs ++ t) same_sums ∙ ap body_of same_pairs
 
 -- Sixteen bytes that read as a number are the body of its reply.
-body_only : (body : List ℕ) (n : ℕ) → All Byte body → body_read body ≡ Ok n → body ≡ body_of (pairs_of (six_bytes n))
+body_only : (body : List ℕ) (n : ℕ) → AllByRecursion Byte body → body_read body ≡ Ok n → body ≡ body_of (pairs_of (six_bytes n))
 unfolding sum_carried
 body_only body n small e =
     let known =
@@ -67,7 +67,7 @@ body_only body n small e =
     (eqb-true (carried (drop 12 body)) (checksum_of (take 12 body)) known.2)
 
 -- All of it: the reply of the key, less some of its lead bytes.
-pub branch_only : (bytes : List ℕ) (n : ℕ) → All Byte bytes → branch_read bytes ≡ Ok n
+pub branch_only : (bytes : List ℕ) (n : ℕ) → AllByRecursion Byte bytes → branch_read bytes ≡ Ok n
     → (lost : ℕ) × (lost ≤ 7) × (bytes ≡ drop lost (branch_reply n))
 unfolding branch_read branch_reply
 branch_only bytes n small e = by_rest (behind_lead lead_bytes bytes) refl e
@@ -80,11 +80,11 @@ branch_only bytes n small e = by_rest (behind_lead lead_bytes bytes) refl e
         let few : lead.0 ≤ 7 = omega arith in
         let front = drop lead.0 lead_bytes in
         let last : body ≡ drop (length front) bytes = sym (ap (drop (length front)) lead.2 ∙ drop_at front body (length front) refl) in
-        let same = body_only body n (subst (All Byte) (sym last) (All-drop Byte (length front) bytes small)) e in
+        let same = body_only body n (subst (AllByRecursion Byte) (sym last) (All-drop Byte (length front) bytes small)) e in
         (lead.0, few, lead.2 ∙ ap (λ b. drop lead.0 lead_bytes ++ b) same ∙ sym (drop-append-le lead.0 lead_bytes (body_of (pairs_of (six_bytes n))) (omega arith)))
 
 -- The same of what a reader answered.
-pub answer_only : (bytes : List ℕ) (r : Result Uid Refusal) → All Byte bytes → key_number r ≡ branch_read bytes
+pub answer_only : (bytes : List ℕ) (r : Result Uid Refusal) → AllByRecursion Byte bytes → key_number r ≡ branch_read bytes
     → IfOk r (λ key. (lost : ℕ) × (lost ≤ 7) × (bytes ≡ drop lost (branch_reply (uid_number key))))
 answer_only bytes (Ok key) small e = branch_only bytes (uid_number key) small (sym e)
 answer_only bytes (Err refusal) small e = tt

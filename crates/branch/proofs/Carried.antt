@@ -2,7 +2,7 @@
 use Rattle.std.proofs.Common.{◌≡◌, ℕ, zero, suc, ◌+◌, ◌-◌, ◌*◌, ◌/◌, ◌%◌, ◌^◌, ◌<◌, Bool, true, false, ◌&&◌, List, [], ◌∷◌, ◌++◌, length, sym, refl, ap, ◌∙◌, arith}
 use lib.Bits.{bit_and, and_le_l}
 use Rattle.std.proofs.lemmas.Bool.{and_parts, and_from}
-use Rattle.std.specs.List.{AllByRecursion as All}
+use Rattle.std.specs.List.{AllByRecursion}
 use Rattle.octets.specs.Bytes.{two_bytes, six_bytes}
 use Rattle.branch.specs.BranchReply.{pairs_of, pair_set, bits_set, carried_after}
 use Rattle.branch.proofs.PairBits.{byte_carried, pair_back}
@@ -15,18 +15,18 @@ abbrev pub written_after : ℕ → List ℕ → ℕ
 written_after n [] = n
 written_after n (b ∷ bytes) = written_after (n * 256 + b) bytes
 
-pub carried_pairs : (n : ℕ) (bytes : List ℕ) → All Byte bytes → carried_after n (pairs_of bytes) ≡ written_after n bytes
+pub carried_pairs : (n : ℕ) (bytes : List ℕ) → AllByRecursion Byte bytes → carried_after n (pairs_of bytes) ≡ written_after n bytes
 carried_pairs n [] small = refl
 carried_pairs n (b ∷ bytes) (s, small) = rw (byte_carried b s).0 (carried_pairs (n * 256 + b) bytes small)
 
-pub bits_set_pairs : (bytes : List ℕ) → All Byte bytes → bits_set (pairs_of bytes) ≡ true
+pub bits_set_pairs : (bytes : List ℕ) → AllByRecursion Byte bytes → bits_set (pairs_of bytes) ≡ true
 bits_set_pairs [] small = refl
 bits_set_pairs (b ∷ bytes) (s, small) = and_from _ _ (byte_carried b s).1 (bits_set_pairs bytes small)
 
-pub small_six : (n : ℕ) → All Byte (six_bytes n)
+pub small_six : (n : ℕ) → AllByRecursion Byte (six_bytes n)
 small_six n = (omega arith, (omega arith, (omega arith, (omega arith, (omega arith, (omega arith, tt))))))
 
-pub small_two : (n : ℕ) → All Byte (two_bytes n)
+pub small_two : (n : ℕ) → AllByRecursion Byte (two_bytes n)
 small_two n = (omega arith, (omega arith, tt))
 
 pub two_written : (n : ℕ) → n < 2 ^ 16 → written_after 0 (two_bytes n) ≡ n
@@ -47,8 +47,8 @@ carried_in n (p ∷ []) = refl
 carried_in n (p ∷ q ∷ pairs) = carried_in (n * 256 + bit_and p q) pairs
 
 -- Pairs with their bits are those of the bytes that they carry.
-pub pairs_back : (m : ℕ) (pairs : List ℕ) → length pairs ≡ 2 * m → All Byte pairs → bits_set pairs ≡ true
-    → (pairs ≡ pairs_of (bytes_in pairs)) × (length (bytes_in pairs) ≡ m) × All Byte (bytes_in pairs)
+pub pairs_back : (m : ℕ) (pairs : List ℕ) → length pairs ≡ 2 * m → AllByRecursion Byte pairs → bits_set pairs ≡ true
+    → (pairs ≡ pairs_of (bytes_in pairs)) × (length (bytes_in pairs) ≡ m) × AllByRecursion Byte (bytes_in pairs)
 pairs_back m [] long small set = (refl, omega arith, tt)
 pairs_back m (p ∷ []) long small set = absurd (omega arith)
 pairs_back zero (p ∷ q ∷ pairs) long small set = absurd (omega arith)
@@ -59,7 +59,7 @@ pairs_back (suc m) (p ∷ q ∷ pairs) long (sp, (sq, small)) set =
     (λ i. sym here.0 i ∷ sym here.1 i ∷ ih.0 i, ap suc ih.1, (omega (arith, and_le_l p q), ih.2))
 
 -- Two or six bytes are those of the number that they write.
-pub two_back : (n : ℕ) (bytes : List ℕ) → length bytes ≡ 2 → All Byte bytes → written_after 0 bytes ≡ n → two_bytes n ≡ bytes
+pub two_back : (n : ℕ) (bytes : List ℕ) → length bytes ≡ 2 → AllByRecursion Byte bytes → written_after 0 bytes ≡ n → two_bytes n ≡ bytes
 two_back n [] long small is = absurd (omega arith)
 two_back n (a ∷ []) long small is = absurd (omega arith)
 two_back n (a ∷ b ∷ []) long (sa, (sb, _)) is =
@@ -68,7 +68,7 @@ two_back n (a ∷ b ∷ []) long (sa, (sb, _)) is =
     λ i. p i ∷ q i ∷ []
 two_back n (a ∷ b ∷ c ∷ more) long small is = absurd (omega arith)
 
-pub six_back : (n : ℕ) (bytes : List ℕ) → length bytes ≡ 6 → All Byte bytes → written_after 0 bytes ≡ n → six_bytes n ≡ bytes
+pub six_back : (n : ℕ) (bytes : List ℕ) → length bytes ≡ 6 → AllByRecursion Byte bytes → written_after 0 bytes ≡ n → six_bytes n ≡ bytes
 six_back n [] long small is = absurd (omega arith)
 six_back n (a ∷ []) long small is = absurd (omega arith)
 six_back n (a ∷ b ∷ []) long small is = absurd (omega arith)

@@ -102,7 +102,7 @@ module _ (line : DaliLine) (range : Range RandomAddress) where
   probed : Probed random_rank (line_meaning line) range (probe_answer line range)
   probed = record {
     silent_if_none_awake_up_to_hi = λ asleep. ap (λ any. cond any Garbled Silent) (none_awake asleep);
-    not_silent_if_one_awake = λ k from-lo within awake silent.
+    not_silent_if_one_awake = λ k from_lo within awake silent.
         let garbled : probe_answer line range ≡ Garbled = ap (λ any. cond any Garbled Silent) (one_awake k within awake) in
         let z : ◌≡◌ {A = ℕ} 0 1 = cc (garbled, silent) in
         omega arith;

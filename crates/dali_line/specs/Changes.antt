@@ -7,7 +7,7 @@ use Rattle.keys.specs.declared.address.Address.{Address}
 use Rattle.keys.specs.declared.random_address.RandomAddress.{RandomAddress}
 use Rattle.dali.specs.declared.short_address.ShortAddress.{ShortAddress}
 use Rattle.lines.specs.Meaning.{Fitted}
-use Rattle.lines.specs.Rules.{with_awake, with_address as with-slot}
+use Rattle.lines.specs.Rules.{with_awake, with_address as with_slot}
 use Rattle.units.specs.State.{is_disabled, is_enabled}
 use Rattle.units.specs.Unit.{with_state, with_address}
 use Rattle.units.specs.declared.state.State.{State}
@@ -69,12 +69,12 @@ module _ (n : ℕ) (a : ShortAddress) where
   addressed_shut u e = ap (λ d. cond (not d && unit_number u == n) (with_address (Some a) u) u) e
 
   pub addressed_open : (address : Address) → slot_of a ≡ address → (u : Unit) → is_disabled u.state ≡ false
-      → fixture_of (addressed_at n a u) ≡ cond (unit_number u == n) (with-slot address (fixture_of u)) (fixture_of u)
+      → fixture_of (addressed_at n a u) ≡ cond (unit_number u == n) (with_slot address (fixture_of u)) (fixture_of u)
   addressed_open address is u e =
       ap (λ d. fixture_of (cond (not d && unit_number u == n) (with_address (Some a) u) u)) e
       ∙ elim (unit_number u == n) as
-      (λ t. fixture_of (cond t (with_address (Some a) u) u) ≡ cond t (with-slot address (fixture_of u)) (fixture_of u))
-      [ true ↦ ap (λ slot. with-slot slot (fixture_of u)) is | false ↦ refl ]
+      (λ t. fixture_of (cond t (with_address (Some a) u) u) ≡ cond t (with_slot address (fixture_of u)) (fixture_of u))
+      [ true ↦ ap (λ slot. with_slot slot (fixture_of u)) is | false ↦ refl ]
 
   pub addressed_keeps : (u : Unit) → (addressed_at n a u).key ≡ u.key
   addressed_keeps u = elim (selected_at n u) as (λ t. (cond t (with_address (Some a) u) u).key ≡ u.key) [ true ↦ refl | false ↦ refl ]

@@ -1,5 +1,5 @@
 -- The ranks of keys, by the numbers on the wire: both orders agree.
-use Rattle.std.specs.Prelude.{◌≡◌, ◌≤◌, ◌==◌, nat_eq}
+use Rattle.std.specs.Prelude.{◌≡◌, ◌≤◌, ◌==◌}
 use Rattle.std.proofs.Common.{arith}
 use Rattle.std.proofs.lemmas.Bool.Decides.{nat_tests}
 use Rattle.keys.specs.RandomAddresses.{orders_agree, same_from_rank}
@@ -7,7 +7,7 @@ use Rattle.keys.specs.RandomAddress.{random_number, random_rank}
 use Rattle.keys.specs.declared.random_address.RandomAddress.{RandomAddress}
 
 module _ (x y : RandomAddress) where
-  pub same_tests : nat_eq (random_rank x) (random_rank y) ≡ (random_number x == random_number y)
+  pub same_tests : (random_rank x == random_rank y) ≡ (random_number x == random_number y)
   same_tests = let below = orders_agree x y in let above = orders_agree y x in grind (arith, nat_tests)
 
   pub number_le : random_rank x ≤ random_rank y → random_number x ≤ random_number y

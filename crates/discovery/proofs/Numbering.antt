@@ -24,14 +24,14 @@ module _ {K : Type 0} (m : Meaning K) where
   slots_on next i rows = next + sum (told_widths m (drop i rows))
 
   module _ (next : ℕ) (rows : List (Record K)) (i : ℕ) (row : Record K) (w : ℕ) (address : Option Address)
-      (more : i < length rows) (its-width : w ≡ width (get_or rows i row)) (its-address : address ≡ address_at next w) where
+      (more : i < length rows) (its_width : w ≡ width (get_or rows i row)) (its_address : address ≡ address_at next w) where
     abbrev now_row : Record K
     now_row = record { key = (get_or rows i row).key; width = w; address = address }
 
     row_numbered : now_row ≡ numbered_row next (get_or rows i row)
     row_numbered =
-        let a-is = its-address ∙ ap (address_at next) its-width in
-        λ j. record { key = (get_or rows i row).key; width = its-width j; address = a-is j }
+        let a_is = its_address ∙ ap (address_at next) its_width in
+        λ j. record { key = (get_or rows i row).key; width = its_width j; address = a_is j }
 
     pub numbered_next : numbered_on (next + w) (i + 1) (set rows i now_row) ≡ numbered_on next i rows
     numbered_next =
@@ -39,14 +39,14 @@ module _ {K : Type 0} (m : Meaning K) where
         ∙ ap (λ l. (take i rows ++ now_row ∷ []) ++ numbered (next + w) m l) (drop-set-lt (i + 1) rows i now_row (omega arith))
         ∙ append_assoc (take i rows) (now_row ∷ []) (numbered (next + w) m (drop (i + 1) rows))
         ∙ ap (λ x. take i rows ++ (x ∷ numbered (next + w) m (drop (i + 1) rows))) row_numbered
-        ∙ ap (λ n. take i rows ++ (numbered_row next (get_or rows i row) ∷ numbered (next + n) m (drop (i + 1) rows))) its-width
+        ∙ ap (λ n. take i rows ++ (numbered_row next (get_or rows i row) ∷ numbered (next + n) m (drop (i + 1) rows))) its_width
         ∙ ap (λ l. take i rows ++ l) (sym (at_drop_more (numbered next m) rows i row more))
 
     slots_here : slots_on next i rows ≡ next + (w + sum (told_widths m (drop (i + 1) rows)))
     slots_here =
         at_drop_more (λ l. next + sum (told_widths m l)) rows i row more
         ∙ ap (λ n. next + n) (sum_by-cons (λ (n : ℕ). n) (width (get_or rows i row)) (told_widths m (drop (i + 1) rows)))
-        ∙ ap (λ n. next + (n + sum (told_widths m (drop (i + 1) rows)))) (sym its-width)
+        ∙ ap (λ n. next + (n + sum (told_widths m (drop (i + 1) rows)))) (sym its_width)
 
     pub slots_next : slots_on (next + w) (i + 1) (set rows i now_row) ≡ slots_on next i rows
     slots_next =

@@ -3,7 +3,7 @@ use Rattle.std.proofs.Common.{◌≡◌, ℕ, suc, ◌+◌, ◌-◌, ◌*◌, �
 use Rattle.std.proofs.lemmas.List.{length-append, length-drop, length-take-le, take_at}
 use Rattle.std.proofs.lemmas.Bool.{and_parts, and_from, eq-eqb, ltb-false, not-false, cond-true, cases_Bool, both_ways}
 use Rattle.std.specs.Option.{option_map}
-use Rattle.std.specs.List.{AllByRecursion as All}
+use Rattle.std.specs.List.{AllByRecursion}
 use Rattle.lines.specs.Meaning.{Fitted, Meaning, is_fitted, is_awake}
 use Rattle.lines.specs.Rules.{query_answer, footprint_of}
 use Rattle.records.specs.Rows.{row_ranks}
@@ -75,7 +75,7 @@ module _ {K : Type 0} (rank : K → ℕ) (levels top first count : ℕ) (laws : 
         stopped still (inl all) =
             let less = finds.still_walking_asked_less still in
             let same = ap (most_questions levels) on.1 in
-            let asked-so = on.2 in
+            let asked_so = on.2 in
             omega arith
         stopped still (inr (inl none)) = both_ways false refl (sym (ap is_some none) ∙ finds.walking_has_a_question still)
         stopped still (inr (inr spent)) = let less = counted t.line (places t) t.walk (omega arith) finds still in omega arith
@@ -100,7 +100,7 @@ module _ {K : Type 0} (rank : K → ℕ) (levels top first count : ℕ) (laws : 
       by true None live at some = absurd (both_ways false refl some)
       by false o live at some = absurd (both_ways false refl some)
 
-  numbered_on_line : (m : Meaning K) (next : ℕ) (rs : List (Record K)) → Bare m → all_answered (asked_widths m rs) ≡ true → All (OnLine m) (numbered next m rs)
+  numbered_on_line : (m : Meaning K) (next : ℕ) (rs : List (Record K)) → Bare m → all_answered (asked_widths m rs) ≡ true → AllByRecursion (OnLine m) (numbered next m rs)
   numbered_on_line m next [] bare all = tt
   numbered_on_line m next (row ∷ rs) bare all =
       let both = and_parts _ _ all in
@@ -137,7 +137,7 @@ module _ {K : Type 0} (rank : K → ℕ) (levels top first count : ℕ) (laws : 
             found = subst (λ p. Found rank levels top p s.line s.walk.listed s.walk.questions) (sym laid_places) found;
             numbered = subst (NumberedFrom first) (sym laid_rows) (numbered_is first s.line (rows s));
             enough = subst (λ ws. sum ws ≤ count) (sym (ap widths laid_rows ∙ numbered_widths first s.line (rows s))) can.2;
-            on_line = subst (All (OnLine s.line)) (sym laid_rows) (numbered_on_line s.line first (rows s) now.1 can.1);
+            on_line = subst (AllByRecursion (OnLine s.line)) (sym laid_rows) (numbered_on_line s.line first (rows s) now.1 can.1);
           };
         }
 
@@ -149,8 +149,8 @@ module _ {K : Type 0} (rank : K → ℕ) (levels top first count : ℕ) (laws : 
         by None e = subst (Good rank levels top first count) (sym (l.scene ∙ ap (λ x. unless_refused x s (laid first s)) e)) (good_laid e)
 
   -- commit: a row that is numbered by the rule, as the line has its width, stands.
-  rows_stand : (m : Meaning K) (rs : List (Record K)) → m.live ≡ true → All (OnLine m) rs
-      → All (λ row. address_suits first count row.width row.address ≡ true) rs
+  rows_stand : (m : Meaning K) (rs : List (Record K)) → m.live ≡ true → AllByRecursion (OnLine m) rs
+      → AllByRecursion (λ row. address_suits first count row.width row.address ≡ true) rs
       → all_stand first count m rs ≡ true
   rows_stand m [] live on_line suits = refl
   rows_stand m (row ∷ rs) live (here, on_line) (suit, suits) =
@@ -179,7 +179,7 @@ module _ {K : Type 0} (rank : K → ℕ) (levels top first count : ℕ) (laws : 
     laid_well : s.walk.phase ≡ Laid → LaidWell rank levels top first count s
     laid_well is = subst (λ p. GoodIn rank levels top first count p s) is g.by_phase
 
-    laid_suits : LaidWell rank levels top first count s → All (λ row. address_suits first count row.width row.address ≡ true) (rows s)
+    laid_suits : LaidWell rank levels top first count s → AllByRecursion (λ row. address_suits first count row.width row.address ≡ true) (rows s)
     laid_suits w = let enough = w.enough in all_suit first count first (rows s) w.numbered (omega arith) (omega arith)
 
     good_committed : s.walk.phase ≡ Laid → Good rank levels top first count (committed rank first count s)

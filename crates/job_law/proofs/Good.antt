@@ -3,7 +3,7 @@ use Rattle.std.proofs.Common.{◌≡◌, ℕ, suc, ◌+◌, ◌-◌, ◌<◌, �
 use Rattle.std.proofs.lemmas.List.{length-append, length-drop, length-map, length-take-le, take_at}
 use Rattle.std.proofs.lemmas.Bool.{ltb-true, cond-true, cond-false, cases_Bool, both_ways}
 use Rattle.std.specs.Option.{option_map}
-use Rattle.std.specs.List.{AllByRecursion as All}
+use Rattle.std.specs.List.{AllByRecursion}
 use Rattle.keys.specs.declared.range.Range.{Range}
 use Rattle.lines.specs.Meaning.{Fitted, Meaning, Sound, SoundFixture, is_fitted, is_awake}
 use Rattle.lines.specs.Rules.{with_awake, changed_at, hush_answer, hushed, roused}
@@ -38,14 +38,14 @@ module _ {K : Type 0} (rank : K → ℕ) (levels top first count : ℕ) where
     pub found : Found rank levels top (places s) s.line s.walk.listed s.walk.questions
     pub numbered : NumberedFrom first (rows s)
     pub enough : sum (widths (rows s)) ≤ count
-    pub on_line : All (OnLine s.line) (rows s)
+    pub on_line : AllByRecursion (OnLine s.line) (rows s)
 
   -- And their fixtures hold the addresses.
   pub record SetWell (s : Scene K) : Type 0 where
     pub found : Found rank levels top (places s) s.line s.walk.listed s.walk.questions
     pub numbered : NumberedFrom first (rows s)
     pub enough : sum (widths (rows s)) ≤ count
-    pub held : All (HoldsAddress s.line) (rows s)
+    pub held : AllByRecursion (HoldsAddress s.line) (rows s)
 
   abbrev pub GoodIn : Phase → Scene K → Type 0
   GoodIn Walking s = Stands rank levels top (places s) s.line s.walk × Bare s.line

@@ -4,7 +4,7 @@ use Rattle.std.proofs.ByRecursion.{All-weaker}
 use Rattle.std.proofs.lemmas.List.{length-map}
 use Rattle.std.proofs.lemmas.Bool.{both_ways, le-leb, lt-leb}
 use Rattle.std.specs.Option.{option_map}
-use Rattle.std.specs.List.{AllByRecursion as All}
+use Rattle.std.specs.List.{AllByRecursion}
 use Rattle.keys.specs.declared.address.Address.{Address}
 use Rattle.lines.specs.Meaning.{Fitted, Meaning, is_fitted, is_awake, SameFixtures}
 use Rattle.lines.proofs.Fixtures.{same_then}
@@ -47,7 +47,7 @@ module _ {K : Type 0} (rank : K → ℕ) (levels top first count : ℕ) (laws : 
   module _ (m : Meaning K) (rs : List (Record K)) (exactly : ListsExactly rank m (row_ranks rank rs))
       (numbered : NumberedFrom first rs)
       (enough : sum (widths rs) ≤ count)
-      (held : All (HoldsAddress m) rs) where
+      (held : AllByRecursion (HoldsAddress m) rs) where
     -- The row of a fitted key.
     row_of : (k : K) (f : Fitted) → m.at k ≡ Some f
         → (row : Record K) × Among row rs × (rank row.key ≡ rank k) × (f.width ≡ row.width) × (f.address ≡ row.address)
@@ -69,9 +69,9 @@ module _ {K : Type 0} (rank : K → ℕ) (levels top first count : ℕ) (laws : 
           let found = row_of k f at in
           let suit = among_all _ found.0 rs (all_suit first count first rs numbered (omega arith) (omega arith)) found.1 in
           ap is_some found.4 ∙ suits_exactly first count found.0.width found.0.address suit ∙ sym (ap (leb 1) found.3);
-      spans_apart = λ j k f g a b at_j at-k differ at_a at_b.
+      spans_apart = λ j k f g a b at_j at_k differ at_a at_b.
           let r = row_of j f at_j in
-          let s = row_of k g at-k in
+          let s = row_of k g at_k in
           let apart = rows_apart rank first rs numbered r.0 s.0 r.1 s.1 (λ e. differ (sym r.2 ∙ e ∙ s.2)) a b (sym r.4 ∙ at_a) (sym s.4 ∙ at_b) in
           same_widths r.3 s.3 apart;
       spans_within_the_family = λ k f a at at_a.
@@ -96,12 +96,12 @@ module _ {K : Type 0} (rank : K → ℕ) (levels top first count : ℕ) (laws : 
         → (phase ≡ Contradicted → ⊥)
         → (phase ≡ Set → AddressesSet rank first count s.line (rows s))
         → Kept rank levels first count s.line (rows s) (places s) phase s.walk.questions
-    of_found f phase not_full not-contradicted set = record {
+    of_found f phase not_full not_contradicted set = record {
       lists_every_fitted_key_once = λ _. exactly_of f;
       asks_few_questions = subst (λ n. s.walk.questions ≤ most_questions levels n) listed_count f.few;
       complete_only_if_not_more_are_fitted = λ _. not_more_fitted rank levels top (places s) laws (omega arith) s.line s.walk.listed s.walk.questions f;
       full_only_if_more_are_fitted = λ is. absurd (not_full is);
-      never_contradicted = not-contradicted;
+      never_contradicted = not_contradicted;
       set_on_the_line = set;
     }
 
@@ -164,9 +164,9 @@ module _ {K : Type 0} (rank : K → ℕ) (levels top first count : ℕ) (laws : 
     address_exactly_if_wide = λ k f at.
         let g = fixture_rested m k f at in
         ap is_some (sym g.3) ∙ a.address_exactly_if_wide k g.0 g.1 ∙ ap (leb 1) g.2;
-    spans_apart = λ j k f g x y at_j at-k differ at_x at_y.
+    spans_apart = λ j k f g x y at_j at_k differ at_x at_y.
         let p = fixture_rested m j f at_j in
-        let q = fixture_rested m k g at-k in
+        let q = fixture_rested m k g at_k in
         same_widths (sym p.2) (sym q.2) (a.spans_apart j k p.0 q.0 x y p.1 q.1 differ (p.3 ∙ at_x) (q.3 ∙ at_y));
     spans_within_the_family = λ k f x at at_x.
         let p = fixture_rested m k f at in

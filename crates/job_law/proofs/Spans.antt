@@ -2,7 +2,7 @@
 use Rattle.std.proofs.Common.{◌≡◌, ℕ, zero, suc, ◌+◌, ◌<◌, ◌≤◌, Bool, true, false, cond, ◌&&◌, ◌||◌, eqb, ltb, leb, ◌⊎◌, List, [], ◌∷◌, map, length, is_some, Some, None, sum, Option, sym, refl, ap, ◌∙◌, inl, inr, arith}
 use Rattle.std.proofs.lemmas.List.Sums.{sum_by-cons}
 use Rattle.std.proofs.lemmas.Bool.{and_from, le-leb, lt-ltb, or_cases, eqb-true, both_ways}
-use Rattle.std.specs.List.{AllByRecursion as All}
+use Rattle.std.specs.List.{AllByRecursion}
 use Rattle.keys.specs.Address.{in_family}
 use Rattle.keys.specs.declared.address.Address.{Address}
 use Rattle.lines.specs.Meaning.{Meaning}
@@ -55,7 +55,7 @@ module _ {K : Type 0} where
   -- Addresses suit their widths where there are enough of them.
   module _ (first count : ℕ) where
     pub all_suit : (next : ℕ) (rows : List (Record K)) → NumberedFrom next rows → first ≤ next → next + sum (widths rows) ≤ first + count
-        → All (λ row. address_suits first count row.width row.address ≡ true) rows
+        → AllByRecursion (λ row. address_suits first count row.width row.address ≡ true) rows
     all_suit next [] n low high = tt
     all_suit next (row ∷ rows) (here, n) low high =
         let total = sum_by-cons (λ x. x) row.width (widths rows) in (
@@ -70,11 +70,11 @@ module _ {K : Type 0} where
   within_more : (low low' high high' : ℕ) → low' ≤ low → high ≤ high' → (row : Record K) → Within low high row → Within low' high' row
   within_more low low' high high' l h row w a is = let p = w a is in (omega arith, omega arith)
 
-  all_within : (low low' high high' : ℕ) → low' ≤ low → high ≤ high' → (rows : List (Record K)) → All (Within low high) rows → All (Within low' high') rows
+  all_within : (low low' high high' : ℕ) → low' ≤ low → high ≤ high' → (rows : List (Record K)) → AllByRecursion (Within low high) rows → AllByRecursion (Within low' high') rows
   all_within low low' high high' l h [] all = tt
   all_within low low' high high' l h (row ∷ rows) (here, all) = (within_more low low' high high' l h row here, all_within low low' high high' l h rows all)
 
-  pub spans_lie : (next : ℕ) (rows : List (Record K)) → NumberedFrom next rows → All (Within next (next + sum (widths rows))) rows
+  pub spans_lie : (next : ℕ) (rows : List (Record K)) → NumberedFrom next rows → AllByRecursion (Within next (next + sum (widths rows))) rows
   spans_lie next [] n = tt
   spans_lie next (row ∷ rows) (here, n) =
       let total = sum_by-cons (λ x. x) row.width (widths rows) in (
@@ -88,7 +88,7 @@ module _ {K : Type 0} where
   Among row [] = ⊥
   Among row (x ∷ xs) = (row ≡ x) ⊎ Among row xs
 
-  pub among_all : (P : Record K → Type 0) (row : Record K) (rows : List (Record K)) → All P rows → Among row rows → P row
+  pub among_all : (P : Record K → Type 0) (row : Record K) (rows : List (Record K)) → AllByRecursion P rows → Among row rows → P row
   among_all P row [] all in' = absurd in'
   among_all P row (x ∷ xs) (here, all) (inl e) = rw e here
   among_all P row (x ∷ xs) (here, all) (inr in') = among_all P row xs all in'
@@ -109,24 +109,24 @@ module _ {K : Type 0} where
       → (rank r.key ≡ rank s.key → ⊥)
       → (a b : Address) → r.address ≡ Some a → s.address ≡ Some b
       → (a.slot + r.width ≤ b.slot) ⊎ (b.slot + s.width ≤ a.slot)
-  rows_apart rank next [] n r s in-r in-s differ a b at-r at-s = absurd in-r
-  rows_apart rank next (x ∷ xs) (here, n) r s (inl er) (inl es) differ a b at-r at-s = absurd (differ (ap (λ (y : Record K). rank y.key) (er ∙ sym es)))
-  rows_apart rank next (x ∷ xs) (here, n) r s (inl er) (inr in-s) differ a b at-r at-s =
-      let behind = among_all _ s xs (spans_lie (next + x.width) xs n) in-s b at-s in
-      let at = here_within next x.width x.address here a (ap (λ (y : Record K). y.address) (sym er) ∙ at-r) in
+  rows_apart rank next [] n r s in_r in_s differ a b at_r at_s = absurd in_r
+  rows_apart rank next (x ∷ xs) (here, n) r s (inl er) (inl es) differ a b at_r at_s = absurd (differ (ap (λ (y : Record K). rank y.key) (er ∙ sym es)))
+  rows_apart rank next (x ∷ xs) (here, n) r s (inl er) (inr in_s) differ a b at_r at_s =
+      let behind = among_all _ s xs (spans_lie (next + x.width) xs n) in_s b at_s in
+      let at = here_within next x.width x.address here a (ap (λ (y : Record K). y.address) (sym er) ∙ at_r) in
       let wide = ap (λ (y : Record K). y.width) er in
       inl (omega (arith, behind))
-  rows_apart rank next (x ∷ xs) (here, n) r s (inr in-r) (inl es) differ a b at-r at-s =
-      let behind = among_all _ r xs (spans_lie (next + x.width) xs n) in-r a at-r in
-      let at = here_within next x.width x.address here b (ap (λ (y : Record K). y.address) (sym es) ∙ at-s) in
+  rows_apart rank next (x ∷ xs) (here, n) r s (inr in_r) (inl es) differ a b at_r at_s =
+      let behind = among_all _ r xs (spans_lie (next + x.width) xs n) in_r a at_r in
+      let at = here_within next x.width x.address here b (ap (λ (y : Record K). y.address) (sym es) ∙ at_s) in
       let wide = ap (λ (y : Record K). y.width) es in
       inr (omega (arith, behind))
-  rows_apart rank next (x ∷ xs) (here, n) r s (inr in-r) (inr in-s) differ a b at-r at-s =
-      rows_apart rank (next + x.width) xs n r s in-r in-s differ a b at-r at-s
+  rows_apart rank next (x ∷ xs) (here, n) r s (inr in_r) (inr in_s) differ a b at_r at_s =
+      rows_apart rank (next + x.width) xs n r s in_r in_s differ a b at_r at_s
 
   -- Each row's span lies within the family.
   pub row_within : (first count : ℕ) (rows : List (Record K)) → NumberedFrom first rows → sum (widths rows) ≤ count → (r : Record K) → Among r rows
       → (a : Address) → r.address ≡ Some a → (first ≤ a.slot) × (a.slot + r.width ≤ first + count)
-  row_within first count rows n few r in-r a at =
-      let lies = among_all _ r rows (spans_lie first rows n) in-r a at in
+  row_within first count rows n few r in_r a at =
+      let lies = among_all _ r rows (spans_lie first rows n) in_r a at in
       (lies.0, omega (arith, lies.1))

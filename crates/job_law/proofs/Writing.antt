@@ -2,7 +2,7 @@
 use Rattle.std.proofs.Common.{◌≡◌, ℕ, zero, suc, ◌<◌, ◌≤◌, Bool, true, false, cond, ◌&&◌, ◌||◌, eqb, leb, ◌⊎◌, List, [], ◌∷◌, map, is_some, Some, None, Option, sym, refl, ap, ◌∙◌, inl, inr, arith}
 use Rattle.std.proofs.lemmas.Bool.{and_from, and_parts, or_parts, eq-eqb, eqb-true, ne_eqb, le-leb, cond-true, cond-false, both_ways}
 use Rattle.std.specs.Option.{option_map}
-use Rattle.std.specs.List.{AllByRecursion as All}
+use Rattle.std.specs.List.{AllByRecursion}
 use Rattle.keys.specs.Address.{in_family}
 use Rattle.keys.specs.declared.address.Address.{Address}
 use Rattle.lines.specs.Meaning.{Fitted, Meaning, is_fitted, is_awake}
@@ -87,8 +87,8 @@ module _ {K : Type 0} (rank : K → ℕ) (first count : ℕ) where
 
   -- Rows behind one are of other keys, and on the line as before.
   still_on_line : (m : Meaning K) (row : Record K) (low : ℕ) (rows : List (Record K)) → rank row.key < low → AscendsFrom low (row_ranks rank rows)
-      → All (OnLine m) rows
-      → All (OnLine (written_to rank first count m row.key row.address)) rows
+      → AllByRecursion (OnLine m) rows
+      → AllByRecursion (OnLine (written_to rank first count m row.key row.address)) rows
   still_on_line m row low [] less asc all = tt
   still_on_line m row low (x ∷ xs) less (at_x, asc) (here, all) = (
     (here.0, at_other m row.key x.key row.address (ne_eqb _ _ (λ e. omega arith)) ∙ here.1, here.2, here.3),
@@ -96,9 +96,9 @@ module _ {K : Type 0} (rank : K → ℕ) (first count : ℕ) where
   )
 
   -- Each row's fixture holds its address, once all are written.
-  pub all_hold : (m : Meaning K) (low : ℕ) (rows : List (Record K)) → AscendsFrom low (row_ranks rank rows) → m.live ≡ true → All (OnLine m) rows
-      → All (λ row. address_suits first count row.width row.address ≡ true) rows
-      → All (HoldsAddress (all_written rank first count m rows)) rows
+  pub all_hold : (m : Meaning K) (low : ℕ) (rows : List (Record K)) → AscendsFrom low (row_ranks rank rows) → m.live ≡ true → AllByRecursion (OnLine m) rows
+      → AllByRecursion (λ row. address_suits first count row.width row.address ≡ true) rows
+      → AllByRecursion (HoldsAddress (all_written rank first count m rows)) rows
   all_hold m low [] asc live on_line suits = tt
   all_hold m low (row ∷ rows) (at, asc) live (here, on_line) (suit, suits) =
       let x = rank row.key in

@@ -1,6 +1,6 @@
 -- The promise: what holds of every chain, at each of its links.
 use Rattle.std.specs.Prelude.{◌≡◌, ℕ, ◌+◌, ◌≤◌, Bool, true, false, ◌⊎◌, List, [], ◌∷◌, ◌++◌, map, length, is_some, Some, ◌≢◌, nat_le}
-use Rattle.std.specs.List.{AllByRecursion as All}
+use Rattle.std.specs.List.{AllByRecursion}
 use Rattle.keys.specs.declared.address.Address.{Address}
 use Rattle.lines.specs.Meaning.{Fitted, Meaning, is_awake, SameFixtures}
 use Rattle.records.specs.Rows.{row_ranks}
@@ -25,7 +25,7 @@ is_complete Contradicted = false
 -- The fixtures of a line hold the addresses that the rows of a book have for them.
 pub record AddressesSet {K : Type 0} (rank : K → ℕ) (first count : ℕ) (m : Meaning K) (rows : List (Record K)) : Type 0 where
   -- Each row's fixture holds the address that the row has, and the row has its width.
-  pub rows_are_on_the_line : All (λ row. (f : Fitted) × (m.at row.key ≡ Some f) × (f.width ≡ row.width) × (f.address ≡ row.address)) rows
+  pub rows_are_on_the_line : AllByRecursion (λ row. (f : Fitted) × (m.at row.key ≡ Some f) × (f.width ≡ row.width) × (f.address ≡ row.address)) rows
   -- It is the one that lay's rule gives.
   pub numbered_by_the_rule : map (λ row. row.address) rows ≡ assigned first (map (λ row. row.width) rows)
   -- A fixture has an address exactly if its width is above 0.

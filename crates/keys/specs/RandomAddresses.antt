@@ -27,11 +27,11 @@ pub orders_agree : (x y : RandomAddress) → nat_lt (random_rank x) (random_rank
 unfolding random_rank
 orders_agree x y = refl
 
-pub top_below_power : random_top < 2 ^ 24
-top_below_power = omega arith
+pub random_top_below_power : random_top < 2 ^ 24
+random_top_below_power = omega arith
 
-pub levels_in_bounds : (1 ≤ 24) × (24 ≤ 48)
-levels_in_bounds = (omega arith, omega arith)
+pub random_levels_in_bounds : (1 ≤ 24) × (24 ≤ 48)
+random_levels_in_bounds = (omega arith, omega arith)
 
-pub addresses_in_bounds : (0 ≤ 512) × (64 ≤ 512)
-addresses_in_bounds = (omega arith, omega arith)
+pub random_addresses_in_bounds : (0 ≤ 512) × (64 ≤ 512)
+random_addresses_in_bounds = (omega arith, omega arith)

@@ -42,11 +42,11 @@ pub orders_agree : (x y : Uid) → nat_lt (uid_rank x) (uid_rank y) ≡ nat_lt (
 unfolding uid_rank
 orders_agree x y = refl
 
-pub top_below_power : uid_top < 2 ^ 48
-top_below_power = omega arith
+pub uid_top_below_power : uid_top < 2 ^ 48
+uid_top_below_power = omega arith
 
-pub levels_in_bounds : (1 ≤ 48) × (48 ≤ 48)
-levels_in_bounds = (omega arith, omega arith)
+pub uid_levels_in_bounds : (1 ≤ 48) × (48 ≤ 48)
+uid_levels_in_bounds = (omega arith, omega arith)
 
-pub addresses_in_bounds : (1 ≤ 512) × (512 ≤ 512)
-addresses_in_bounds = (omega arith, omega arith)
+pub uid_addresses_in_bounds : (1 ≤ 512) × (512 ≤ 512)
+uid_addresses_in_bounds = (omega arith, omega arith)

@@ -14,10 +14,10 @@ use Rattle.rdm_line.specs.declared.mode.Mode.{Mode}
 use Rattle.rdm_line.specs.Maps.{map_by}
 use Rattle.rdm_line.proofs.Questions.{sent_table, sent_signal}
 
-module _ (q : Question) (to-all : destination_of q ≡ All) (fine : question_refusal q ≡ None) where
+module _ (q : Question) (to_all : destination_of q ≡ All) (fine : question_refusal q ≡ None) where
   reaction_all : (f : Fixture) → reaction f (frame_of q) ≡ ((obeyed f (asked_by q)).0, called f (asked_by q))
   reaction_all f =
-      reaction_asked f q 0 (omega arith) fine ∙ ap (λ d. reacted (reach_of f (destination_number d)) f (heard q 0)) to-all
+      reaction_asked f q 0 (omega arith) fine ∙ ap (λ d. reacted (reach_of f (destination_number d)) f (heard q 0)) to_all
 
   pub all_changed : (fs : List Fixture) → asked q fs ≡ map (λ f. (obeyed f (asked_by q)).0) fs
   all_changed fs =

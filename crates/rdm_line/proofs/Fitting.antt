@@ -29,10 +29,10 @@ fits_none keys widths key zero = record {
   long = refl;
 }
 
-module _ (i : ℕ) (keys widths : List ℕ) (places : List Fixture) (in-keys : i < length keys) (in-widths : i < length widths) (so_far : FittedUpTo i keys widths places) where
+module _ (i : ℕ) (keys widths : List ℕ) (places : List Fixture) (in_keys : i < length keys) (in_widths : i < length widths) (so_far : FittedUpTo i keys widths places) where
   -- What the key and the width at i tell.
   turn : each_fits keys widths ≡ (fits_one (get_or keys i 0) (get_or widths i 0) && each_fits (drop (i + 1) keys) (drop (i + 1) widths))
-  turn = sym so_far.rest_decides ∙ ap₂ each_fits (drop_more keys i 0 in-keys) (drop_more widths i 0 in-widths)
+  turn = sym so_far.rest_decides ∙ ap₂ each_fits (drop_more keys i 0 in_keys) (drop_more widths i 0 in_widths)
 
   pub cannot_fit : fits_one (get_or keys i 0) (get_or widths i 0) ≡ false → false ≡ each_fits keys widths
   cannot_fit e = first_lacks (each_fits keys widths) (fits_one (get_or keys i 0) (get_or widths i 0)) (each_fits (drop (i + 1) keys) (drop (i + 1) widths)) turn e
@@ -40,15 +40,15 @@ module _ (i : ℕ) (keys widths : List ℕ) (places : List Fixture) (in-keys : i
   pub fits_next : (f : Fixture) → i < length places → fits_one (get_or keys i 0) (get_or widths i 0) ≡ true → number_of f ≡ get_or keys i 0
       → f ≡ fresh_fixture f.key (get_or widths i 0)
       → FittedUpTo (i + 1) keys widths (set places i f)
-  fits_next f in-places fits number fresh =
-      let next = take_more_set places i f in-places in
+  fits_next f in_places fits number fresh =
+      let next = take_more_set places i f in_places in
       let done = so_far.fitted_ones in
       record {
         fitted_ones = record {
           keys_in_order =
-              ap (map number_of) next ∙ map_push number_of (take i places) f ∙ ap₂ (λ ns n. ns ++ (n ∷ [])) done.keys_in_order number ∙ sym (take_more keys i 0 in-keys);
+              ap (map number_of) next ∙ map_push number_of (take i places) f ∙ ap₂ (λ ns n. ns ++ (n ∷ [])) done.keys_in_order number ∙ sym (take_more keys i 0 in_keys);
           widths_in_order =
-              ap (map width_of) next ∙ map_push width_of (take i places) f ∙ ap₂ (λ ns n. ns ++ (n ∷ [])) done.widths_in_order (ap width_of fresh) ∙ sym (take_more widths i 0 in-widths);
+              ap (map width_of) next ∙ map_push width_of (take i places) f ∙ ap₂ (λ ns n. ns ++ (n ∷ [])) done.widths_in_order (ap width_of fresh) ∙ sym (take_more widths i 0 in_widths);
           fresh =
               ap (map as_delivered) next ∙ map_push as_delivered (take i places) f ∙ ap₂ (λ fs g. fs ++ (g ∷ [])) done.fresh (ap (fresh_fixture f.key) (ap width_of fresh) ∙ sym fresh) ∙ sym next;
         };

@@ -3,7 +3,7 @@ use Rattle.std.proofs.Common.{◌≡◌, ℕ, ◌≤◌, Bool, true, false, cond
 use Rattle.std.proofs.ByRecursion.{All-weaker}
 use Rattle.std.proofs.lemmas.Bool.{both_ways, and_parts, and_from}
 use Rattle.std.specs.Option.{option_map}
-use Rattle.std.specs.List.{AllByRecursion as All}
+use Rattle.std.specs.List.{AllByRecursion}
 use Rattle.keys.specs.Uid.{uid_rank, uid_number}
 use Rattle.keys.specs.declared.range.Range.{Range}
 use Rattle.keys.specs.declared.uid.Uid.{Uid}
@@ -54,7 +54,7 @@ silent_by_number (Clear key) e = absurd (clear_speaks (uid_number key) e)
 silent_by_number Garbled e = absurd (garbled_speaks e)
 
 -- Nobody is kept by a test that all fail.
-none_kept : (test : Fixture → Bool) (fs : List Fixture) → All (λ f. test f ≡ false) fs → filter test fs ≡ []
+none_kept : (test : Fixture → Bool) (fs : List Fixture) → AllByRecursion (λ f. test f ≡ false) fs → filter test fs ≡ []
 none_kept test [] fail = refl
 none_kept test (f ∷ fs) (this, fail) = rw this (none_kept test fs fail)
 
@@ -66,11 +66,11 @@ found_kept test (g ∷ fs) key f is pass none = by (has_key key g) (test g) refl
     by : (here kept : Bool) → test g ≡ kept → cond here (Some g) (fixture_at fs key) ≡ Some f → cond kept (g ∷ filter test fs) (filter test fs) ≡ []
         → (fixture_at fs key ≡ Some f → test f ≡ true → filter test fs ≡ [] → ⊥)
         → ⊥
-    by here true e IfSome none later = let z : ◌≡◌ {A = ℕ} 0 1 = cc in omega arith
-    by true false e IfSome none later =
+    by here true e found none later = let z : ◌≡◌ {A = ℕ} 0 1 = cc in omega arith
+    by true false e found none later =
         let same : g ≡ f = cc in
         both_ways (test f) (ap test (sym same) ∙ e) pass
-    by false false e IfSome none later = later IfSome pass none
+    by false false e found none later = later found pass none
 
 keys_of_none : (fs : List Fixture) → map (λ f. f.key) fs ≡ [] → fs ≡ []
 keys_of_none [] e = refl
@@ -96,8 +96,8 @@ module _ (s : State) (range : Range Uid) where
       by false e = refl
       by true e =
           let parts = and_parts (not f.muted) (leb (uid_number range.lo) (number_of f) && leb (number_of f) (uid_number range.hi)) e in
-          let up-to-hi = (and_parts (leb (uid_number range.lo) (number_of f)) (leb (number_of f) (uid_number range.hi)) parts.1).1 in
-          let asleep = none f.key (rank_from_number f.key range.hi up-to-hi) in
+          let up_to_hi = (and_parts (leb (uid_number range.lo) (number_of f)) (leb (number_of f) (uid_number range.hi)) parts.1).1 in
+          let asleep = none f.key (rank_from_number f.key range.hi up_to_hi) in
           let awake : awake_there (option_map seen (fixture_at (fitted s) f.key)) ≡ not f.muted = ap (λ o. awake_there (option_map seen o)) itself in
           absurd (both_ways (not f.muted) (sym awake ∙ asleep) parts.0)
 

@@ -3,7 +3,7 @@ use Rattle.std.specs.Prelude.{◌≡◌, ℕ, Bool, true, false, cond, not, List
 use Rattle.std.proofs.Common.{sym, ap, ◌∙◌}
 use Rattle.std.proofs.lemmas.Bool.{eqb-true, eq-eqb, and_parts, or_parts, not-true, cond-false}
 use Rattle.std.specs.Option.{option_map}
-use Rattle.std.specs.List.{AllByRecursion as All}
+use Rattle.std.specs.List.{AllByRecursion}
 use Rattle.keys.specs.Uid.{uid_number}
 use Rattle.keys.specs.declared.uid.Uid.{Uid}
 use Rattle.fixtures.specs.declared.fixture.Fixture.{Fixture}
@@ -69,17 +69,17 @@ found_passes test (f ∷ fs) key all =
     by false this later = later
 
 -- Where no key stands twice, each fixture is the one that has its key.
-others_apart : (n : ℕ) (fs : List Fixture) → among n (map number_of fs) ≡ false → All (λ f. (n == number_of f) ≡ false) fs
+others_apart : (n : ℕ) (fs : List Fixture) → among n (map number_of fs) ≡ false → AllByRecursion (λ f. (n == number_of f) ≡ false) fs
 others_apart n [] apart = tt
 others_apart n (f ∷ fs) apart =
     let parts = or_parts (n == number_of f) (among n (map number_of fs)) apart in
     (parts.0, others_apart n fs parts.1)
 
-both_of : {X : Type 0} (P Q R : X → Type 0) → ((x : X) → P x → Q x → R x) → (xs : List X) → All P xs → All Q xs → All R xs
+both_of : {X : Type 0} (P Q R : X → Type 0) → ((x : X) → P x → Q x → R x) → (xs : List X) → AllByRecursion P xs → AllByRecursion Q xs → AllByRecursion R xs
 both_of P Q R join [] ps qs = tt
 both_of P Q R join (x ∷ xs) (p, ps) (q, qs) = (join x p q, both_of P Q R join xs ps qs)
 
-finds_each : (fs : List Fixture) → distinct (map number_of fs) ≡ true → All (λ f. fixture_at fs f.key ≡ Some f) fs
+finds_each : (fs : List Fixture) → distinct (map number_of fs) ≡ true → AllByRecursion (λ f. fixture_at fs f.key ≡ Some f) fs
 finds_each [] apart = tt
 finds_each (f ∷ fs) apart =
     let parts = and_parts (not (among (number_of f) (map number_of fs))) (distinct (map number_of fs)) apart in
@@ -90,6 +90,6 @@ finds_each (f ∷ fs) apart =
           fs others (finds_each fs parts.1),
     )
 
-pub each_found : (fs : List Fixture) → keys_distinct fs ≡ true → All (λ f. fixture_at fs f.key ≡ Some f) fs
+pub each_found : (fs : List Fixture) → keys_distinct fs ≡ true → AllByRecursion (λ f. fixture_at fs f.key ≡ Some f) fs
 unfolding keys_distinct
 each_found fs apart = finds_each fs apart

@@ -1,5 +1,5 @@
 // Listing keys in ascending order.
-ghost use Rattle.std.specs.Prelude.{◌≡◌, suc, ◌≤◌, ltb, ◌++◌, length, take, drop, if◌then◌else◌, nat_lt};
+ghost use Rattle.std.specs.Prelude.{◌≡◌, suc, ◌≤◌, ◌++◌, length, take, drop, if◌then◌else◌, nat_lt};
 ghost use Rattle.walk_law.specs.Ranks.{is_in};
 ghost use Rattle.records.specs.Rows.{row_ranks, place_of, with_key};
 
@@ -37,7 +37,7 @@ fn place<K: Family>(memory: &[Record<K>], count: usize, key: K) -> usize
 // a place for one more; otherwise nothing is written.
 pub fn list<K: Family>(memory: &mut [Record<K>], count: usize, key: K) -> bool
     ensures answer { result ≡ nat_lt count (length memory.old) }
-    ensures after { memory.new ≡ (if ltb count (length memory.old) then with_key K.Family.rank key (take count memory.old) ++ drop (suc count) memory.old else memory.old) }
+    ensures after { memory.new ≡ (if nat_lt count (length memory.old) then with_key K.Family.rank key (take count memory.old) ++ drop (suc count) memory.old else memory.old) }
 {
     if count >= memory.len() {
         return false;

@@ -188,11 +188,11 @@ module _ {K : Type 0} (rank : K → ℕ) (levels top places : ℕ) (laws : Laws 
     step_by_parts Walking (r ∷ rs) None listed questions w a (to_probe range p asks honest told same) is =
         let e : r ≡ range_ranks rank range = cc in
         let done = after_honest_probe m r rs listed questions range p e honest w in
-        let heard-is =
+        let heard_is =
         is
         ∙ ap (λ x. heard places (walking r rs None listed questions) (answer_ranks rank x)) told
         ∙ probe_is_heard m r rs listed questions (probe_ranks rank p) w in
-        subst (λ x. Stands rank levels top places x v) (sym same) (subst (Stands rank levels top places m) (sym heard-is) done)
+        subst (λ x. Stands rank levels top places x v) (sym same) (subst (Stands rank levels top places m) (sym heard_is) done)
     step_by_parts Walking (r ∷ rs) (Some j) listed questions w a (to_hush k asks told same) is =
         let e : j ≡ rank k = cc in
         let w' = subst (λ i. Walks rank levels top places m r rs (Some i) listed questions) e w in
@@ -201,8 +201,8 @@ module _ {K : Type 0} (rank : K → ℕ) (levels top places : ℕ) (laws : Laws 
         is
         ∙ ap (λ x. heard places (walking r rs (Some j) listed questions) (answer_ranks rank x)) told
         ∙ ap (λ i. heard places (walking r rs (Some i) listed questions) (answer.Hush (hush_answer m k))) e in
-        let heard-is = is' ∙ hush_is_heard m r rs listed questions (rank k) (hush_answer m k) w' in
-        subst (λ x. Stands rank levels top places x v) (sym same) (subst (Stands rank levels top places (hushed rank m k)) (sym heard-is) done)
+        let heard_is = is' ∙ hush_is_heard m r rs listed questions (rank k) (hush_answer m k) w' in
+        subst (λ x. Stands rank levels top places x v) (sym same) (subst (Stands rank levels top places (hushed rank m k)) (sym heard_is) done)
     step_by_parts Walking (r ∷ rs) None listed questions w a (to_hush k asks told same) is = absurd (let z : ◌≡◌ {A = ℕ} 0 1 = cc in omega arith)
     step_by_parts Walking (r ∷ rs) (Some j) listed questions w a (to_probe range p asks honest told same) is = absurd (let z : ◌≡◌ {A = ℕ} 0 1 = cc in omega arith)
     step_by_parts Walking [] hushing listed questions w a honest is = absurd w

@@ -1,7 +1,7 @@
 -- The book of a walk over a line: it lists fitted keys that are not awake, and every other fitted key is awake.
 use Rattle.std.proofs.Common.{◌≡◌, ℕ, suc, ◌+◌, ◌*◌, ◌^◌, ◌<◌, ◌≤◌, Bool, true, false, cond, ◌&&◌, ◌||◌, eqb, ◌⊎◌, List, [], ◌∷◌, length, sym, refl, ap, ◌∙◌, inl, inr, arith}
 use Rattle.std.proofs.lemmas.Bool.{and_parts, and_from, or_cases, or_parts, eqb-true, eq-eqb, both_ways}
-use Rattle.std.specs.List.{AllByRecursion as All}
+use Rattle.std.specs.List.{AllByRecursion}
 use Rattle.lines.specs.Meaning.{Meaning, is_fitted, is_awake}
 use Rattle.lines.specs.Rules.{hush_answer, hushed, roused}
 use Rattle.lines.proofs.Meanings.{live_hushed, fitted_hushed, awake_hushed}
@@ -22,7 +22,7 @@ module _ {K : Type 0} (rank : K → ℕ) (top places : ℕ) where
     pub live : m.live ≡ true
     pub ascends : Ascends listed
     pub fits : length listed ≤ places
-    pub within : All (λ j. j ≤ top) listed
+    pub within : AllByRecursion (λ j. j ≤ top) listed
     pub listed_fitted : (k : K) → is_in (rank k) listed ≡ true → is_fitted m k ≡ true
     pub listed_asleep : (k : K) → is_in (rank k) listed ≡ true → is_awake m k ≡ false
     pub awake_or_listed : (k : K) → is_fitted m k ≡ true → is_in (rank k) listed ≡ false → is_awake m k ≡ true
@@ -30,14 +30,14 @@ module _ {K : Type 0} (rank : K → ℕ) (top places : ℕ) where
   -- At first nothing is listed, and every fitted key is awake.
   pub listing_none : (m : Meaning K) → m.live ≡ true → ((k : K) → is_awake m k ≡ is_fitted m k) → Listing m []
   unfolding is_in
-  listing_none m live all-awake = record {
+  listing_none m live all_awake = record {
     live = live;
     ascends = tt;
     fits = omega arith;
     within = tt;
     listed_fitted = λ k is. absurd (both_ways false refl is);
     listed_asleep = λ k is. absurd (both_ways false refl is);
-    awake_or_listed = λ k fitted _. all-awake k ∙ fitted;
+    awake_or_listed = λ k fitted _. all_awake k ∙ fitted;
   }
 
   -- A key that answered its hush is listed.

@@ -2,7 +2,7 @@
 use Rattle.std.proofs.Common.{◌≡◌, ℕ, suc, ◌+◌, ◌<◌, ◌≤◌, Bool, true, false, cond, ◌||◌, eqb, ltb, ◌⊎◌, List, [], ◌∷◌, length, sym, refl, ap, ◌∙◌, inl, inr, arith}
 use Rattle.std.proofs.lemmas.Bool.{cond_both, ltb-true, ltb-false, eqb-true, eqb-false, or_parts, or_cases, ne_eqb, eq-eqb, both_ways, cases_order}
 use Rattle.std.proofs.lemmas.Bool.Decides.{nat_tests}
-use Rattle.std.specs.List.{AllByRecursion as All}
+use Rattle.std.specs.List.{AllByRecursion}
 use Rattle.walk_law.specs.Ranks.{is_in, put_in, AscendsFrom, Ascends}
 
 pub length-put_in : (j : ℕ) (xs : List ℕ) → length (put_in j xs) ≡ suc (length xs)
@@ -37,11 +37,11 @@ ascends_put_in low j (x ∷ xs) (at, asc) le out =
     (λ t. (at, ascends_put_in (suc x) j xs asc (ltb-true x j t) apart.1))
     (λ t. (le, (let above = ltb-false x j t in omega arith, asc)))
 
-pub all_put_in : (P : ℕ → Type 0) (j : ℕ) (xs : List ℕ) → P j → All P xs → All P (put_in j xs)
+pub all_put_in : (P : ℕ → Type 0) (j : ℕ) (xs : List ℕ) → P j → AllByRecursion P xs → AllByRecursion P (put_in j xs)
 unfolding put_in
 all_put_in P j [] here all = (here, tt)
 all_put_in P j (x ∷ xs) here (at, all) =
-    cond_both (ltb x j) (x ∷ put_in j xs) (j ∷ x ∷ xs) (All P) (λ _. (at, all_put_in P j xs here all)) (λ _. (here, (at, all)))
+    cond_both (ltb x j) (x ∷ put_in j xs) (j ∷ x ∷ xs) (AllByRecursion P) (λ _. (at, all_put_in P j xs here all)) (λ _. (here, (at, all)))
 
 -- What is below all of an ascending list is not in it.
 pub below_not_in : (low j : ℕ) (xs : List ℕ) → AscendsFrom low xs → j < low → is_in j xs ≡ false
@@ -56,20 +56,20 @@ in_rest : (x j : ℕ) (xs : List ℕ) → is_in j (x ∷ xs) ≡ true → (j ≡
 unfolding is_in
 in_rest x j xs is ne = rw (ne_eqb j x ne) at is
 
-all_in_rest : (x low : ℕ) (xs ys : List ℕ) → x < low → AscendsFrom low ys → All (λ y. is_in y (x ∷ xs) ≡ true) ys → All (λ y. is_in y xs ≡ true) ys
+all_in_rest : (x low : ℕ) (xs ys : List ℕ) → x < low → AscendsFrom low ys → AllByRecursion (λ y. is_in y (x ∷ xs) ≡ true) ys → AllByRecursion (λ y. is_in y xs ≡ true) ys
 all_in_rest x low xs [] less asc all = tt
 all_in_rest x low xs (y ∷ ys) less (at, asc) (is, all) =
     (in_rest x y xs is (λ e. omega arith), all_in_rest x (suc y) xs ys (omega arith) asc all)
 
 -- An ascending list within another one is no longer.
-pub length-within : (low : ℕ) (xs ys : List ℕ) → AscendsFrom low xs → AscendsFrom low ys → All (λ y. is_in y xs ≡ true) ys → length ys ≤ length xs
+pub length-within : (low : ℕ) (xs ys : List ℕ) → AscendsFrom low xs → AscendsFrom low ys → AllByRecursion (λ y. is_in y xs ≡ true) ys → length ys ≤ length xs
 unfolding is_in
 length-within low xs [] asc asc' all = omega arith
 length-within low [] (y ∷ ys) asc asc' (is, all) = absurd (both_ways false refl is)
 length-within low (x ∷ xs) (y ∷ ys) (at, asc) (at', asc') (is, all) =
     by_order (λ zs asc'' rest. length-within (suc x) xs zs asc asc'' rest) (cases_order x y)
   where
-    by_order : ((zs : List ℕ) → AscendsFrom (suc x) zs → All (λ z. is_in z xs ≡ true) zs → length zs ≤ length xs)
+    by_order : ((zs : List ℕ) → AscendsFrom (suc x) zs → AllByRecursion (λ z. is_in z xs ≡ true) zs → length zs ≤ length xs)
         → (x ≡ y) ⊎ ((x < y) ⊎ (y < x))
         → suc (length ys) ≤ suc (length xs)
     by_order shorter (inl e) =

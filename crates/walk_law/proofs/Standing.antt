@@ -2,7 +2,7 @@
 use Rattle.std.proofs.Common.{◌≡◌, ℕ, zero, suc, ◌+◌, ◌-◌, ◌*◌, ◌/◌, ◌^◌, ◌<◌, ◌≤◌, Bool, true, false, cond, ◌&&◌, eqb, ◌⊎◌, List, [], ◌∷◌, length, Some, None, Option, sym, refl, ap, ◌∙◌, inl, inr, arith}
 use Rattle.std.proofs.ByRecursion.{All-weaker}
 use Rattle.std.proofs.lemmas.Bool.{and_from, and_parts, cases_lt, eq-eqb}
-use Rattle.std.specs.List.{AllByRecursion as All}
+use Rattle.std.specs.List.{AllByRecursion}
 use Rattle.keys.specs.declared.range.Range.{Range}
 use Rattle.lines.specs.Meaning.{Meaning, is_fitted, is_awake}
 use Rattle.lines.specs.Rules.{hush_answer, hushed}
@@ -18,7 +18,7 @@ use Rattle.walk_law.proofs.RankLists.{length-put_in}
 
 -- Where the lowest awake key is at or above the beginning of a range, the range has at most so many keys.
 abbrev pub Near : {K : Type 0} → (K → ℕ) → Meaning K → ℕ → List (Range ℕ) → Type 0
-Near rank m spread ranges = All (λ s. NoneAwakeBelow rank m s.lo → s.hi < s.lo + 2 ^ spread) ranges
+Near rank m spread ranges = AllByRecursion (λ s. NoneAwakeBelow rank m s.lo → s.hi < s.lo + 2 ^ spread) ranges
 
 -- A key of the range whose hush is next: it is not listed, and the range was heard from.
 abbrev pub Due : {K : Type 0} → (K → ℕ) → Meaning K → Range ℕ → List ℕ → Option ℕ → Type 0
@@ -30,7 +30,7 @@ owed None = 0
 owed (Some k) = 1
 
 -- Ranges up to the highest rank are as narrow as all keys together.
-ends_within : (c low top : ℕ) (rs : List (Range ℕ)) → NestedFrom c low top rs → All (λ s. s.hi ≤ top) rs
+ends_within : (c low top : ℕ) (rs : List (Range ℕ)) → NestedFrom c low top rs → AllByRecursion (λ s. s.hi ≤ top) rs
 ends_within c low top [] e = tt
 ends_within c low top (s ∷ ss) (begins, ordered, narrow, rest) =
     let next = begins_within (suc c) (suc s.hi) top ss rest in
@@ -60,7 +60,7 @@ module _ {K : Type 0} (rank : K → ℕ) (levels top places : ℕ) where
   pub record Overflows (m : Meaning K) (listed : List ℕ) (questions : ℕ) : Type 0 where
     pub ascends : Ascends listed
     pub full : length listed ≡ places
-    pub within : All (λ j. j ≤ top) listed
+    pub within : AllByRecursion (λ j. j ≤ top) listed
     pub listed_fitted : (k : K) → is_in (rank k) listed ≡ true → is_fitted m k ≡ true
     pub extra : K
     pub extra_fitted : is_fitted m extra ≡ true
@@ -80,12 +80,12 @@ module _ {K : Type 0} (rank : K → ℕ) (levels top places : ℕ) where
   Stands m w = StandsIn w.phase w.pending m w.hushing w.listed w.questions
 
   module _ (laws : Laws rank levels top) where
-    wide_enough : (m : Meaning K) (rs : List (Range ℕ)) → All (λ s. s.hi ≤ top) rs → Near rank m levels rs
+    wide_enough : (m : Meaning K) (rs : List (Range ℕ)) → AllByRecursion (λ s. s.hi ≤ top) rs → Near rank m levels rs
     wide_enough m rs within =
         let narrow = laws.narrow in
         All-weaker (λ s. s.hi ≤ top) (λ s. NoneAwakeBelow rank m s.lo → s.hi < s.lo + 2 ^ levels) (λ s le _. omega arith) rs within
 
-    within_shape : (r : Range ℕ) (rs : List (Range ℕ)) → Nested levels top r rs → All (λ s. s.hi ≤ top) (r ∷ rs)
+    within_shape : (r : Range ℕ) (rs : List (Range ℕ)) → Nested levels top r rs → AllByRecursion (λ s. s.hi ≤ top) (r ∷ rs)
     within_shape r rs n =
         let next = begins_within n.own (suc r.hi) top rs n.behind in
         (omega arith, ends_within n.own (suc r.hi) top rs n.behind)

@@ -2,7 +2,7 @@
 use Rattle.std.proofs.Common.{◌≡◌, ℕ, suc, ◌+◌, ◌*◌, ◌^◌, ◌<◌, ◌≤◌, Bool, true, false, cond, not, ◌&&◌, ◌||◌, eqb, ◌⊎◌, List, [], ◌∷◌, map, length, is_some, Some, None, Option, Result, sym, refl, ap, ◌∙◌, subst, subst₂, inl, inr, mul-le-mul, arith}
 use Rattle.std.proofs.ByRecursion.{All-weaker}
 use Rattle.std.proofs.lemmas.Bool.{both_ways, cases_Bool, or_right, or_left, or_cases, eq-eqb, eqb-true, and_parts}
-use Rattle.std.specs.List.{AllByRecursion as All}
+use Rattle.std.specs.List.{AllByRecursion}
 use Rattle.keys.specs.declared.range.Range.{Range}
 use Rattle.lines.specs.Meaning.{Meaning, is_fitted, is_awake}
 use Rattle.refusals.specs.declared.Refusal.{Refusal}
@@ -48,7 +48,7 @@ module _ {K : Type 0} (rank : K → ℕ) (levels top places : ℕ) (laws : Laws 
       steps_stand rank levels top places laws few_places reached.start (begun top) reached.answers m w at_first reached.steps
 
   -- Ranks of the family are those of keys.
-  keys_of : (xs : List ℕ) → All (λ j. j ≤ top) xs → (ks : List K) × (map rank ks ≡ xs)
+  keys_of : (xs : List ℕ) → AllByRecursion (λ j. j ≤ top) xs → (ks : List K) × (map rank ks ≡ xs)
   keys_of [] within = ([], refl)
   keys_of (x ∷ xs) (le, within) =
       let here = laws.every x le in
@@ -59,15 +59,15 @@ module _ {K : Type 0} (rank : K → ℕ) (levels top places : ℕ) (laws : Laws 
   length-keys [] = refl
   length-keys (k ∷ ks) = ap suc (length-keys ks)
 
-  all_of : (P : ℕ → Type 0) (ks : List K) → All P (map rank ks) → All (λ k. P (rank k)) ks
+  all_of : (P : ℕ → Type 0) (ks : List K) → AllByRecursion P (map rank ks) → AllByRecursion (λ k. P (rank k)) ks
   all_of P [] all = tt
   all_of P (k ∷ ks) (here, all) = (here, all_of P ks all)
 
-  of_all : (P : ℕ → Type 0) (ks : List K) → All (λ k. P (rank k)) ks → All P (map rank ks)
+  of_all : (P : ℕ → Type 0) (ks : List K) → AllByRecursion (λ k. P (rank k)) ks → AllByRecursion P (map rank ks)
   of_all P [] all = tt
   of_all P (k ∷ ks) (here, all) = (here, of_all P ks all)
 
-  in_itself : (xs ys : List ℕ) → ((j : ℕ) → is_in j xs ≡ true → is_in j ys ≡ true) → All (λ j. is_in j ys ≡ true) xs
+  in_itself : (xs ys : List ℕ) → ((j : ℕ) → is_in j xs ≡ true → is_in j ys ≡ true) → AllByRecursion (λ j. is_in j ys ≡ true) xs
   unfolding is_in
   in_itself [] ys sub = tt
   in_itself (x ∷ xs) ys sub =
@@ -79,7 +79,7 @@ module _ {K : Type 0} (rank : K → ℕ) (levels top places : ℕ) (laws : Laws 
       let extra = rank o.extra in
       let all = put_in extra listed in
       let found = keys_of all (all_put_in (λ j. j ≤ top) extra listed (laws.within o.extra) o.within) in
-      let in_all = all_of (λ j. is_in j all ≡ true) found.0 (subst (All (λ j. is_in j all ≡ true)) (sym found.1) (in_itself all all (λ j is. is))) in
+      let in_all = all_of (λ j. is_in j all ≡ true) found.0 (subst (AllByRecursion (λ j. is_in j all ≡ true)) (sym found.1) (in_itself all all (λ j is. is))) in
       record {
         keys = found.0;
         count = sym (length-keys found.0) ∙ ap length found.1 ∙ length-put_in extra listed ∙ ap suc o.full;

@@ -1,6 +1,6 @@
 -- The law of the walk, over whole runs.
 use Rattle.std.specs.Prelude.{◌≡◌, ℕ, suc, ◌+◌, ◌*◌, ◌<◌, ◌≤◌, true, false, ◌⊎◌, List, map, length, is_some, Result}
-use Rattle.std.specs.List.{AllByRecursion as All}
+use Rattle.std.specs.List.{AllByRecursion}
 use Rattle.refusals.specs.declared.Refusal.{Refusal}
 use Rattle.lines.specs.Meaning.{Meaning, is_fitted, is_awake}
 use Rattle.walk_law.specs.Ranks.{is_in, Ascends}
@@ -33,7 +33,7 @@ pub record MoreFittedThan {K : Type 0} (rank : K → ℕ) (m : Meaning K) (n : �
   pub keys : List K
   pub count : length keys ≡ suc n
   pub different : Ascends (map rank keys)
-  pub all_fitted : All (λ k. is_fitted m k ≡ true) keys
+  pub all_fitted : AllByRecursion (λ k. is_fitted m k ≡ true) keys
 
 -- The most questions that are asked with so many keys listed, in a family of so many levels.
 abbrev pub most_questions : ℕ → ℕ → ℕ

@@ -1,6 +1,6 @@
 -- Walks over a line: which answers lead from one walk to the next, and what a walk that ended has found.
 use Rattle.std.specs.Prelude.{◌≡◌, ℕ, suc, ◌+◌, ◌*◌, ◌^◌, ◌<◌, ◌≤◌, true, false, List, map, length, Some}
-use Rattle.std.specs.List.{AllByRecursion as All}
+use Rattle.std.specs.List.{AllByRecursion}
 use Rattle.keys.specs.declared.range.Range.{Range}
 use Rattle.lines.specs.Meaning.{Meaning, is_fitted, is_awake}
 use Rattle.lines.specs.Rules.{Probed, hush_answer, hushed}

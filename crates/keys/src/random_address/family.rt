@@ -1,6 +1,6 @@
 // Random addresses as a family of keys.
 ghost use Rattle.keys.specs.RandomAddress.{random_rank, random_top};
-ghost use Rattle.keys.specs.RandomAddresses.{same_from_rank, rank_within, with_rank, top_below_power, levels_in_bounds, addresses_in_bounds};
+ghost use Rattle.keys.specs.RandomAddresses.{same_from_rank, rank_within, with_rank, random_top_below_power, random_levels_in_bounds, random_addresses_in_bounds};
 
 use crate::family::Family;
 use crate::random_address::RandomAddress;
@@ -24,11 +24,11 @@ impl Family for RandomAddress {
 
     ghost every_rank_up_to_top = { with_rank };
 
-    ghost top_below_power = { top_below_power };
+    ghost top_below_power = { random_top_below_power };
 
-    ghost levels_in_bounds = { levels_in_bounds };
+    ghost levels_in_bounds = { random_levels_in_bounds };
 
-    ghost addresses_in_bounds = { addresses_in_bounds };
+    ghost addresses_in_bounds = { random_addresses_in_bounds };
 
     fn to_rank(self) -> u64 {
         self.value as u64

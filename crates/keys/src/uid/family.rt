@@ -1,6 +1,6 @@
 // Unique identifiers as a family of keys.
 ghost use Rattle.keys.specs.Uid.{uid_rank, uid_top};
-ghost use Rattle.keys.specs.Uids.{same_from_rank, rank_within, with_rank, top_below_power, levels_in_bounds, addresses_in_bounds};
+ghost use Rattle.keys.specs.Uids.{same_from_rank, rank_within, with_rank, uid_top_below_power, uid_levels_in_bounds, uid_addresses_in_bounds};
 
 use crate::family::Family;
 use crate::uid::Uid;
@@ -24,11 +24,11 @@ impl Family for Uid {
 
     ghost every_rank_up_to_top = { with_rank };
 
-    ghost top_below_power = { top_below_power };
+    ghost top_below_power = { uid_top_below_power };
 
-    ghost levels_in_bounds = { levels_in_bounds };
+    ghost levels_in_bounds = { uid_levels_in_bounds };
 
-    ghost addresses_in_bounds = { addresses_in_bounds };
+    ghost addresses_in_bounds = { uid_addresses_in_bounds };
 
     fn to_rank(self) -> u64 {
         self.manufacturer as u64 * 0x1_0000_0000 + self.device as u64

@@ -67,10 +67,10 @@ returns-then-is_below g c =
     let new = sym c.if-is_listed.ensures in
     let more = c.if-not-list.ensures in
     let free : ltb (length listed) (places_of book) ≡ true = free_place rank book ∙ sym more.answer in
-    let now-listed = ranks_listed rank book c.args.key after (ltb-true _ _ (sym more.answer)) more.count more.memory in
+    let now_listed = ranks_listed rank book c.args.key after (ltb-true _ _ (sym more.answer)) more.count more.memory in
     record {
       walk =
-          ap (standing rank c.probe_again.new.self) now-listed
+          ap (standing rank c.probe_again.new.self) now_listed
           ∙ c.probe_again.ensures (put_in (rank c.args.key) listed)
           ∙ yes_of_several w.phase (ranks_of rank w.pending) (range_ranks rank c.args.range) (option_map rank w.hushing) listed w.questions c.requires.walking
           c.requires.lowest
@@ -93,10 +93,10 @@ returns-else-is_below g c =
     let new = sym c.if-is_listed.ensures in
     let more = c.if-not-list.ensures in
     let free : ltb (length listed) (places_of book) ≡ true = free_place rank book ∙ sym more.answer in
-    let now-listed = ranks_listed rank book c.args.key after (ltb-true _ _ (sym more.answer)) more.count more.memory in
+    let now_listed = ranks_listed rank book c.args.key after (ltb-true _ _ (sym more.answer)) more.count more.memory in
     record {
       walk =
-          ap (standing rank c.drop_range.new.self) now-listed
+          ap (standing rank c.drop_range.new.self) now_listed
           ∙ c.drop_range.ensures (put_in (rank c.args.key) listed)
           ∙ yes_of_one w.phase (ranks_of rank w.pending) (range_ranks rank c.args.range) (option_map rank w.hushing) listed w.questions c.requires.walking
           c.requires.lowest

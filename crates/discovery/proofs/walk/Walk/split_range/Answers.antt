@@ -8,7 +8,7 @@ use Rattle.discovery.proofs.walk.Walk.split_range.Goals as goal
 pub returns-else-replace_first : goal.returns-else-replace_first
 returns-else-replace_first g c = λ listed.
     let w = c.args.self.now in
-    let no-memory = c.if-replace_first.ensures in
+    let no_memory = c.if-replace_first.ensures in
     c.end.ensures listed
-    ∙ ap (λ ranges. ended Contradicted (record { phase = w.phase; pending = ranges; hushing = option_map g.K.Family.rank w.hushing; listed = listed; questions = w.questions })) no-memory.after
-    ∙ sym (cond-false _ _ _ (sym no-memory.answer))
+    ∙ ap (λ ranges. ended Contradicted (record { phase = w.phase; pending = ranges; hushing = option_map g.K.Family.rank w.hushing; listed = listed; questions = w.questions })) no_memory.after
+    ∙ sym (cond-false _ _ _ (sym no_memory.answer))
