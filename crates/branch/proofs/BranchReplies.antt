@@ -1,9 +1,9 @@
 -- Branch replies: their size, and how they come to stand in a buffer.
-use Rattle.std.proofs.Common.{◌≡◌, ℕ, List, ◌++◌, length, refl, arith}
+use Rattle.std.proofs.Common.{◌≡◌, ℕ, List, length, refl}
 use Rattle.octets.specs.Buffer.{put_at, begun}
 use Rattle.octets.proofs.Buffers.{put_three}
 use Rattle.octets.specs.Bytes.{two_bytes, six_bytes, checksum_of}
-use Rattle.branch.specs.BranchReply.{lead_bytes, pairs_of, body_of, branch_reply}
+use Rattle.branch.specs.BranchReply.{lead_bytes, pairs_of, branch_reply}
 
 pub length-reply : (n : ℕ) → length (branch_reply n) ≡ 24
 unfolding branch_reply

@@ -1,5 +1,5 @@
 -- The bytes of a branch reply, and what the branch reader makes of bytes.
-use Rattle.std.specs.Prelude.{ℕ, ◌+◌, ◌-◌, ◌*◌, ◌^◌, Bool, true, false, cond, not, ◌&&◌, List, [], ◌∷◌, ◌++◌, length, take, drop, Some, None, Ok, Err, Option, Result, ◌==◌, bit_and, bit_or, nat_lt}
+use Rattle.std.specs.Prelude.{ℕ, ◌+◌, ◌-◌, ◌*◌, ◌^◌, Bool, true, cond, not, ◌&&◌, List, [], ◌∷◌, ◌++◌, length, take, drop, Some, None, Ok, Err, Option, Result, ◌==◌, bit_and, bit_or, nat_lt}
 use Rattle.keys.specs.Uid.{uid_number}
 use Rattle.keys.specs.declared.uid.Uid.{Uid}
 use Rattle.refusals.specs.declared.Refusal.{Refusal}

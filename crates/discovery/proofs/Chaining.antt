@@ -1,12 +1,12 @@
 -- Chains and their promise, from single links.
-use Rattle.std.proofs.Common.{◌≡◌, ℕ, ◌+◌, ◌<◌, ◌≤◌, Bool, true, false, cond, not, ◌||◌, List, [], ◌∷◌, ◌++◌, length, get_or, drop, sym, refl, ap, ◌∙◌, subst}
+use Rattle.std.proofs.Common.{◌≡◌, ℕ, ◌+◌, ◌<◌, ◌≤◌, Bool, true, false, cond, List, [], ◌∷◌, ◌++◌, length, get_or, drop, sym, refl, ap, ◌∙◌, subst}
 use Rattle.std.proofs.lemmas.List.{append-nil, append_assoc, at_drop_more, at_drop_all}
 use Rattle.std.proofs.lemmas.Bool.{both_ways}
 use Rattle.lines.specs.Meaning.{Meaning}
 use Rattle.records.specs.declared.record.Record.{Record}
 use Rattle.walk_law.proofs.Listing.{Laws}
 use Rattle.job_law.specs.Calls.{Opens}
-use Rattle.job_law.specs.Chain.{State, with_job, with_closed, Link, opens, opens_again, runs, lays, commits, closes, Chain, begins, follows, is_open, is_close, is_made, made}
+use Rattle.job_law.specs.Chain.{State, with_job, with_closed, Link, opens, opens_again, runs, lays, commits, closes, begins, follows, is_open, is_close, is_made, made}
 use Rattle.job_law.specs.Promise.{GoesOn, LeadsHere}
 use Rattle.job_law.specs.Scene.{Scene}
 use Rattle.job_law.specs.declared.call.Call.{Call}

@@ -1,5 +1,5 @@
 -- commit, from what its parts say.
-use Rattle.std.proofs.Common.{◌≡◌, ℕ, Ok, Err, Result, sym, refl, ap, ◌∙◌}
+use Rattle.std.proofs.Common.{◌≡◌, ℕ, Ok, Err, Result, sym, ap, ◌∙◌}
 use Rattle.lines.specs.Meaning.{Meaning}
 use Rattle.records.specs.Rows.{row_ranks}
 use Rattle.refusals.specs.declared.Refusal.{Refusal}

@@ -1,17 +1,17 @@
 -- lay, from what its parts say.
-use Rattle.std.proofs.Common.{◌≡◌, ℕ, ◌+◌, ◌<◌, ◌≤◌, ◌++◌, take, drop, Ok, Err, sum, Result, sym, refl, ap, ◌∙◌, subst, arith}
+use Rattle.std.proofs.Common.{◌≡◌, ℕ, ◌+◌, ◌<◌, ◌≤◌, ◌++◌, take, drop, Ok, Err, sum, Result, sym, ap, ◌∙◌, subst, arith}
 use Rattle.lines.specs.Meaning.{Meaning}
 use Rattle.records.specs.Rows.{row_ranks}
 use Rattle.refusals.specs.declared.Refusal.{Refusal}
 use Rattle.walk_law.specs.declared.phase.Phase.TheVariants.{Laid}
 use Rattle.job_law.specs.Calls.{Lays, lay_refusal, laid, refused_or_done, unless_refused}
 use Rattle.job_law.specs.Numbering.{numbered, told_widths}
-use Rattle.job_law.specs.Scene.{Scene, in_phase}
+use Rattle.job_law.specs.Scene.{Scene}
 use Rattle.job_law.proofs.Refusing.{lay_free}
 use Rattle.job_law.proofs.Spans.{numbered_length, numbered_ranks}
 use Rattle.discovery.specs.Books.{memory_of, rows_of}
 use Rattle.discovery.specs.Jobs.{scene_of}
-use Rattle.discovery.specs.Walks.{standing, walk_of}
+use Rattle.discovery.specs.Walks.{standing}
 use Rattle.discovery.specs.declared.book.Book.{Book}
 use Rattle.discovery.specs.declared.job.Job.{Job}
 use Rattle.discovery.specs.declared.walk.Walk.{Walk}

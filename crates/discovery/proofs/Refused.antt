@@ -1,5 +1,5 @@
 -- A call that checks before it changes anything: refused with nothing changed, or done.
-use Rattle.std.proofs.Common.{◌≡◌, ℕ, Some, None, Ok, Err, Option, Result, refl, arith}
+use Rattle.std.proofs.Common.{◌≡◌, ℕ, Some, None, Ok, Err, Option, refl, arith}
 use Rattle.refusals.specs.declared.Refusal.{Refusal}
 use Rattle.job_law.specs.Calls.{refused_or_done}
 

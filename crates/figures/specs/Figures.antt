@@ -1,5 +1,5 @@
 -- The figures, in one joint statement.
-use Rattle.std.specs.Prelude.{◌≡◌, ℕ, List, [], ◌∷◌, Ok, bit_and, bit_or}
+use Rattle.std.specs.Prelude.{◌≡◌, ℕ, [], ◌∷◌, Ok, bit_and, bit_or}
 use Rattle.branch.specs.BranchReply.{branch_reply, branch_read}
 use Rattle.branch.specs.Overlaid.{overlaid}
 use Rattle.octets.specs.Bytes.{two_at}

@@ -1,32 +1,32 @@
 -- Each call leads from what is good to what is good.
-use Rattle.std.proofs.Common.{◌≡◌, ℕ, suc, ◌+◌, ◌-◌, ◌*◌, ◌^◌, ◌<◌, ◌≤◌, min, Bool, true, false, cond, not, ◌&&◌, eqb, ltb, ◌⊎◌, List, [], ◌∷◌, ◌++◌, map, length, take, drop, is_some, IfSome, Some, None, sum, Option, Result, sym, refl, ap, ◌∙◌, subst, inl, inr, mul-le-mul, arith}
+use Rattle.std.proofs.Common.{◌≡◌, ℕ, suc, ◌+◌, ◌*◌, ◌^◌, ◌<◌, ◌≤◌, min, Bool, true, false, cond, ◌⊎◌, List, [], ◌∷◌, length, drop, is_some, IfSome, Some, None, sum, Option, Result, sym, refl, ap, ◌∙◌, subst, inl, inr, mul-le-mul, arith}
 use Rattle.std.proofs.lemmas.List.{length-append, length-drop, length-take-le, take_at}
-use Rattle.std.proofs.lemmas.Bool.{and_parts, and_from, eq-eqb, ltb-false, not-false, cond-true, cases_Bool, both_ways}
+use Rattle.std.proofs.lemmas.Bool.{and_parts, and_from, eq-eqb, cond-true, both_ways}
 use Rattle.std.specs.Option.{option_map}
 use Rattle.std.specs.List.{AllByRecursion}
-use Rattle.lines.specs.Meaning.{Fitted, Meaning, is_fitted, is_awake}
+use Rattle.lines.specs.Meaning.{Fitted, Meaning}
 use Rattle.lines.specs.Rules.{query_answer, footprint_of}
 use Rattle.records.specs.Rows.{row_ranks}
 use Rattle.records.specs.declared.record.Record.{Record}
 use Rattle.refusals.specs.declared.Refusal.{Refusal}
-use Rattle.refusals.specs.declared.Refusal.TheVariants.{NoAnswer, TooWide}
+use Rattle.refusals.specs.declared.Refusal.TheVariants.{NoAnswer}
 use Rattle.walk_law.specs.Law.{most_questions, FindsEveryFixture}
 use Rattle.walk_law.specs.Phases.{is_walking}
 use Rattle.walk_law.specs.Ranks.{Ascends}
 use Rattle.walk_law.specs.Walk.{Walk, asked}
 use Rattle.walk_law.specs.declared.phase.Phase.{Phase}
 use Rattle.walk_law.specs.declared.phase.Phase.TheVariants.{Walking, Walked, Laid, Set, Full, Contradicted}
-use Rattle.walk_law.proofs.Listing.{Laws, Listing}
-use Rattle.walk_law.proofs.Standing.{Found, StandsIn, Stands}
+use Rattle.walk_law.proofs.Listing.{Laws}
+use Rattle.walk_law.proofs.Standing.{Found, StandsIn}
 use Rattle.walk_law.proofs.WholeRuns.{stands_finds}
 use Rattle.job_law.specs.Calls.{Runs, outside_walking, questions_spent, asks_on, Lays, lay_refusal, laid, unless_refused, Commits, commit_refusal, rows_refusal, committed}
-use Rattle.job_law.specs.Numbering.{asked_widths, all_answered, told_widths, width_of, numbered, answers_as, row_stands, all_stand, address_suits, all_written}
+use Rattle.job_law.specs.Numbering.{asked_widths, all_answered, width_of, numbered, answers_as, all_stand, address_suits, all_written}
 use Rattle.job_law.specs.Scene.{Scene, rows, places}
 use Rattle.job_law.specs.declared.call.Ran.{Ran}
-use Rattle.job_law.proofs.Good.{Bare, Good, GoodIn, LaidWell, SetWell, WalksWell, good_walk, walks_on}
+use Rattle.job_law.proofs.Good.{Bare, Good, GoodIn, LaidWell, WalksWell, good_walk, walks_on}
 use Rattle.job_law.proofs.Refusing.{lay_free, commit_laid}
 use Rattle.job_law.proofs.Spans.{NumberedFrom, widths, numbered_is, numbered_widths, numbered_ranks, numbered_length, all_suit}
-use Rattle.job_law.proofs.Writing.{OnLine, HoldsAddress, all_hold, live_all_written, fitted_all_written, awake_all_written}
+use Rattle.job_law.proofs.Writing.{OnLine, all_hold, live_all_written, fitted_all_written, awake_all_written}
 
 walking_is : (phase : Phase) → is_walking phase ≡ true → phase ≡ Walking
 walking_is Walking e = refl

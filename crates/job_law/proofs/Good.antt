@@ -1,28 +1,24 @@
 -- What holds where a chain stands, from link to link.
-use Rattle.std.proofs.Common.{◌≡◌, ℕ, suc, ◌+◌, ◌-◌, ◌<◌, ◌≤◌, min, Bool, true, false, cond, not, ◌&&◌, eqb, ltb, ◌⊎◌, List, [], ◌∷◌, ◌++◌, length, take, drop, IfSome, Some, None, sum, Option, sym, refl, ap, ◌∙◌, subst, inl, inr, arith}
+use Rattle.std.proofs.Common.{◌≡◌, ℕ, suc, ◌+◌, ◌-◌, ◌<◌, ◌≤◌, min, Bool, true, false, cond, eqb, List, ◌++◌, length, take, drop, IfSome, Some, None, sum, Option, sym, refl, ap, ◌∙◌, subst, arith}
 use Rattle.std.proofs.lemmas.List.{length-append, length-drop, length-map, length-take-le, take_at}
-use Rattle.std.proofs.lemmas.Bool.{ltb-true, cond-true, cond-false, cases_Bool, both_ways}
 use Rattle.std.specs.Option.{option_map}
 use Rattle.std.specs.List.{AllByRecursion}
-use Rattle.keys.specs.declared.range.Range.{Range}
 use Rattle.lines.specs.Meaning.{Fitted, Meaning, Sound, SoundFixture, is_fitted, is_awake}
-use Rattle.lines.specs.Rules.{with_awake, changed_at, hush_answer, hushed, roused}
+use Rattle.lines.specs.Rules.{with_awake, changed_at, hush_answer, hushed}
 use Rattle.lines.proofs.Meanings.{live_roused, fitted_roused, awake_roused}
 use Rattle.records.specs.Rows.{row_ranks, with_key}
 use Rattle.records.specs.declared.record.Record.{Record}
 use Rattle.records.proofs.Places.{length-with_key, ranks_with_key}
-use Rattle.walk_law.specs.Listing.{lists_key}
 use Rattle.walk_law.specs.Ranks.{put_in}
-use Rattle.walk_law.specs.Run.{Honest, to_probe, to_hush, Step, answer_ranks, probe_ranks}
-use Rattle.walk_law.specs.Walk.{Walk, begun, heard}
+use Rattle.walk_law.specs.Run.{Honest, to_probe, to_hush, Step, answer_ranks}
+use Rattle.walk_law.specs.Walk.{Walk, begun}
 use Rattle.walk_law.specs.declared.phase.Phase.{Phase}
 use Rattle.walk_law.specs.declared.phase.Phase.TheVariants.{Walking, Walked, Laid, Set, Full, Contradicted}
 use Rattle.walk_law.specs.declared.question.Answer.{Answer}
-use Rattle.walk_law.specs.declared.question.Answer.TheVariants as answer
-use Rattle.walk_law.proofs.Going.{walking, step_stands, step_counts}
+use Rattle.walk_law.proofs.Going.{step_stands, step_counts}
 use Rattle.walk_law.proofs.ListedKeys.{Outcome, lists_none, lists_one, outcome}
-use Rattle.walk_law.proofs.Listing.{Laws, Listing, listing_none}
-use Rattle.walk_law.proofs.Standing.{Walks, Found, Overflows, Stands, StandsIn, begins}
+use Rattle.walk_law.proofs.Listing.{Laws, listing_none}
+use Rattle.walk_law.proofs.Standing.{Found, Stands, StandsIn, begins}
 use Rattle.job_law.specs.Calls.{Opens, Asks, Questions, no_question, then_asks}
 use Rattle.job_law.specs.Scene.{Scene, rows, places}
 use Rattle.job_law.proofs.Spans.{NumberedFrom, widths}

@@ -1,33 +1,32 @@
 -- The promise, from what holds from link to link.
-use Rattle.std.proofs.Common.{◌≡◌, ℕ, zero, suc, ◌+◌, ◌<◌, ◌≤◌, min, Bool, true, false, cond, ◌&&◌, leb, ◌⊎◌, List, [], ◌∷◌, ◌++◌, map, length, take, is_some, Some, None, sum, Option, sym, refl, ap, ◌∙◌, subst, inl, inr, arith}
+use Rattle.std.proofs.Common.{◌≡◌, ℕ, zero, suc, ◌+◌, ◌≤◌, true, false, leb, ◌⊎◌, List, length, is_some, Some, None, sum, Option, sym, refl, ap, ◌∙◌, subst, inl, inr, arith}
 use Rattle.std.proofs.ByRecursion.{All-weaker}
 use Rattle.std.proofs.lemmas.List.{length-map}
-use Rattle.std.proofs.lemmas.Bool.{both_ways, le-leb, lt-leb}
+use Rattle.std.proofs.lemmas.Bool.{both_ways, le-leb}
 use Rattle.std.specs.Option.{option_map}
 use Rattle.std.specs.List.{AllByRecursion}
 use Rattle.keys.specs.declared.address.Address.{Address}
-use Rattle.lines.specs.Meaning.{Fitted, Meaning, is_fitted, is_awake, SameFixtures}
+use Rattle.lines.specs.Meaning.{Fitted, Meaning, SameFixtures}
 use Rattle.lines.proofs.Fixtures.{same_then}
 use Rattle.lines.specs.Rules.{with_awake, rested}
 use Rattle.lines.proofs.Meanings.{fitted_rested, awake_rested}
 use Rattle.records.specs.Rows.{row_ranks}
 use Rattle.records.specs.declared.record.Record.{Record}
 use Rattle.walk_law.specs.Law.{ListsExactly, MoreFittedThan, most_questions}
-use Rattle.walk_law.specs.Ranks.{is_in, Ascends}
 use Rattle.walk_law.specs.declared.phase.Phase.{Phase}
 use Rattle.walk_law.specs.declared.phase.Phase.TheVariants.{Walking, Walked, Laid, Set, Full, Contradicted}
 use Rattle.walk_law.proofs.Listing.{Laws}
-use Rattle.walk_law.proofs.Standing.{Found, Overflows, Stands, StandsIn}
-use Rattle.walk_law.proofs.WholeRuns.{stands_finds, lists_exactly, not_more_fitted, more_fitted}
+use Rattle.walk_law.proofs.Standing.{Found, StandsIn}
+use Rattle.walk_law.proofs.WholeRuns.{stands_finds, lists_exactly, not_more_fitted}
 use Rattle.job_law.specs.Calls.{closed}
-use Rattle.job_law.specs.Chain.{State, with_job, with_closed, state_line, state_memory, Between, Link, opens, opens_again, runs, lays, commits, closes, Chain, begins, follows}
-use Rattle.job_law.specs.Numbering.{assigned, address_suits}
-use Rattle.job_law.specs.Promise.{is_complete, AddressesSet, Kept, KeptIn, KeptLink, Promised}
-use Rattle.job_law.specs.Scene.{Scene, ClosedScene, rows, places}
+use Rattle.job_law.specs.Chain.{State, with_job, with_closed, state_line, state_memory, Link, opens, opens_again, runs, lays, commits, closes, Chain, begins, follows}
+use Rattle.job_law.specs.Numbering.{address_suits}
+use Rattle.job_law.specs.Promise.{AddressesSet, Kept, KeptIn, KeptLink, Promised}
+use Rattle.job_law.specs.Scene.{Scene, rows, places}
 use Rattle.job_law.specs.declared.call.Call.{Call}
 use Rattle.job_law.proofs.SameFixtures.{same_opened, same_link}
 use Rattle.job_law.proofs.Calling.{good_run, run_ends, good_lay, good_commit, commit_sets}
-use Rattle.job_law.proofs.Good.{Good, GoodIn, LaidWell, SetWell, good_opened}
+use Rattle.job_law.proofs.Good.{Good, GoodIn, good_opened}
 use Rattle.job_law.proofs.Spans.{NumberedFrom, widths, by_the_rule, all_suit, Among, among_all, among_listed, rows_apart, row_within}
 use Rattle.job_law.proofs.Writing.{HoldsAddress}
 

@@ -1,5 +1,5 @@
 -- No call changes which fixtures there are.
-use Rattle.std.proofs.Common.{◌≡◌, ℕ, Bool, true, false, List, [], ◌∷◌, Some, None, Option, Result, sym, refl, ap, ◌∙◌, subst}
+use Rattle.std.proofs.Common.{◌≡◌, ℕ, List, [], ◌∷◌, Some, None, Option, Result, sym, refl, ap, ◌∙◌, subst}
 use Rattle.keys.specs.declared.address.Address.{Address}
 use Rattle.lines.specs.Meaning.{Meaning, SameFixtures}
 use Rattle.lines.proofs.Fixtures.{same_again, same_then, same_roused, same_rested, same_hushed, same_addressed}
@@ -8,8 +8,8 @@ use Rattle.refusals.specs.declared.Refusal.{Refusal}
 use Rattle.walk_law.specs.Run.{Honest, to_probe, to_hush}
 use Rattle.walk_law.specs.Walk.{Walk}
 use Rattle.walk_law.specs.declared.question.Answer.{Answer}
-use Rattle.job_law.specs.Calls.{Opens, Asks, Questions, no_question, then_asks, Runs, outside_walking, questions_spent, asks_on, Lays, lay_refusal, laid, Commits, commit_refusal, committed, closed, unless_refused}
-use Rattle.job_law.specs.Chain.{State, state_line, state_memory, with_job, with_closed, Link, opens, opens_again, runs, lays, commits, closes}
+use Rattle.job_law.specs.Calls.{Opens, Questions, no_question, then_asks, Runs, outside_walking, questions_spent, asks_on, Lays, lay_refusal, laid, Commits, commit_refusal, committed, unless_refused}
+use Rattle.job_law.specs.Chain.{State, state_line, state_memory, Link, opens, opens_again, runs, lays, commits, closes}
 use Rattle.job_law.specs.Numbering.{written_to, all_written}
 use Rattle.job_law.specs.Scene.{Scene, ClosedScene, rows}
 use Rattle.job_law.specs.declared.call.Call.{Call}

@@ -1,19 +1,17 @@
 -- What a line means once the addresses of a book are written to its fixtures.
-use Rattle.std.proofs.Common.{◌≡◌, ℕ, zero, suc, ◌<◌, ◌≤◌, Bool, true, false, cond, ◌&&◌, ◌||◌, eqb, leb, ◌⊎◌, List, [], ◌∷◌, map, is_some, Some, None, Option, sym, refl, ap, ◌∙◌, inl, inr, arith}
-use Rattle.std.proofs.lemmas.Bool.{and_from, and_parts, or_parts, eq-eqb, eqb-true, ne_eqb, le-leb, cond-true, cond-false, both_ways}
+use Rattle.std.proofs.Common.{◌≡◌, ℕ, zero, suc, ◌<◌, Bool, true, false, cond, eqb, List, [], ◌∷◌, Some, None, Option, refl, ap, ◌∙◌, arith}
+use Rattle.std.proofs.lemmas.Bool.{and_from, or_parts, eq-eqb, ne_eqb, le-leb, cond-true, cond-false, both_ways}
 use Rattle.std.specs.Option.{option_map}
 use Rattle.std.specs.List.{AllByRecursion}
-use Rattle.keys.specs.Address.{in_family}
 use Rattle.keys.specs.declared.address.Address.{Address}
 use Rattle.lines.specs.Meaning.{Fitted, Meaning, is_fitted, is_awake}
-use Rattle.lines.specs.Rules.{changed_at, with_address, set_answer, addressed, query_answer, footprint_of, wide_there}
-use Rattle.lines.specs.declared.answers.Footprint.{Footprint}
+use Rattle.lines.specs.Rules.{changed_at, with_address, set_answer, addressed, wide_there}
 use Rattle.lines.proofs.Meanings.{live_addressed, fitted_addressed, awake_addressed_at}
 use Rattle.records.specs.Rows.{row_ranks}
 use Rattle.records.specs.declared.record.Record.{Record}
 use Rattle.walk_law.specs.Ranks.{is_in, AscendsFrom}
 use Rattle.walk_law.proofs.RankLists.{below_not_in}
-use Rattle.job_law.specs.Numbering.{written_to, all_written, address_suits, answers_as, row_stands, all_stand}
+use Rattle.job_law.specs.Numbering.{written_to, all_written, address_suits}
 
 -- A row's fixture is fitted, with the width that the row has, and has no address at width 0.
 abbrev pub OnLine : {K : Type 0} → Meaning K → Record K → Type 0

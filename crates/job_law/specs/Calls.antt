@@ -1,5 +1,5 @@
 -- Each call of a job, as a relation between what it finds and what it leaves.
-use Rattle.std.specs.Prelude.{◌≡◌, ℕ, suc, ◌^◌, ◌<◌, ◌≤◌, Bool, true, false, cond, not, ◌⊎◌, List, ◌++◌, length, drop, Some, None, Ok, Err, sum, Option, Result, nat_lt}
+use Rattle.std.specs.Prelude.{◌≡◌, ℕ, suc, ◌^◌, ◌<◌, ◌≤◌, Bool, true, false, cond, not, ◌⊎◌, List, ◌++◌, drop, Some, None, Ok, Err, sum, Option, Result, nat_lt}
 use Rattle.lines.specs.Meaning.{Meaning, Sound}
 use Rattle.lines.specs.Rules.{roused, rested}
 use Rattle.records.specs.Rows.{with_key}
@@ -9,7 +9,7 @@ use Rattle.refusals.specs.declared.Refusal.TheVariants.{WrongPhase, QuestionsSpe
 use Rattle.walk_law.specs.Listing.{lists_key}
 use Rattle.walk_law.specs.Phases.{is_walking}
 use Rattle.walk_law.specs.Run.{Honest, answer_ranks}
-use Rattle.walk_law.specs.Walk.{Walk, begun, asked, heard}
+use Rattle.walk_law.specs.Walk.{begun, asked, heard}
 use Rattle.walk_law.specs.declared.phase.Phase.{Phase}
 use Rattle.walk_law.specs.declared.phase.Phase.TheVariants.{Walking, Walked, Laid, Set, Full, Contradicted}
 use Rattle.walk_law.specs.declared.question.Answer.{Answer}

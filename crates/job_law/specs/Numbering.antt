@@ -1,5 +1,5 @@
 -- How the fixtures in a book are numbered.
-use Rattle.std.specs.Prelude.{ℕ, zero, suc, ◌+◌, Bool, true, false, cond, not, ◌&&◌, ◌||◌, List, [], ◌∷◌, map, is_some, Some, None, sum, Option, ◌==◌}
+use Rattle.std.specs.Prelude.{ℕ, zero, suc, ◌+◌, Bool, true, false, cond, ◌&&◌, List, [], ◌∷◌, map, is_some, Some, None, sum, Option, ◌==◌}
 use Rattle.keys.specs.Address.{in_family}
 use Rattle.keys.specs.declared.address.Address.{Address}
 use Rattle.lines.specs.Meaning.{Meaning}

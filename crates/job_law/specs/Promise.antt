@@ -10,7 +10,7 @@ use Rattle.walk_law.specs.declared.phase.Phase.{Phase}
 use Rattle.walk_law.specs.declared.phase.Phase.TheVariants.{Walking, Walked, Laid, Set, Full, Contradicted}
 use Rattle.job_law.specs.Chain.{State, state_line, with_job, with_closed, Link, opens, opens_again, runs, lays, commits, closes, Chain, begins, follows}
 use Rattle.job_law.specs.Numbering.{assigned}
-use Rattle.job_law.specs.Scene.{Scene, ClosedScene, rows, places, closed_rows, closed_places}
+use Rattle.job_law.specs.Scene.{Scene, rows, places, closed_rows, closed_places}
 use Rattle.job_law.specs.declared.call.Call.{Call}
 
 -- The phases in which the search has ended and every fixture was found.

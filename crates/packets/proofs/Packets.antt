@@ -3,7 +3,7 @@ use Rattle.std.proofs.Common.{◌≡◌, ℕ, ◌+◌, List, ◌++◌, length, t
 use Rattle.octets.specs.Buffer.{put_at, begun}
 use Rattle.octets.proofs.Buffers.{put_three, take-begun}
 use Rattle.octets.specs.Bytes.{two_bytes, checksum_of}
-use Rattle.packets.specs.Packet.{packet_of, header_bytes, sealed}
+use Rattle.packets.specs.Packet.{packet_of, header_bytes}
 use Rattle.packets.specs.declared.packet.Header.{Header}
 
 pub length-packet : (h : Header) (payload : List ℕ) → length (packet_of h payload) ≡ 26 + length payload

@@ -1,13 +1,12 @@
 -- A packet reads back as itself.
-use Rattle.std.proofs.Common.{◌≡◌, ℕ, ◌+◌, ◌-◌, ◌*◌, ◌/◌, ◌%◌, ◌^◌, ◌<◌, ◌≤◌, true, cond, not, List, [], ◌∷◌, ◌++◌, length, get_or, take, drop, Ok, Err, sym, refl, ap, ◌∙◌, arith, length-append}
+use Rattle.std.proofs.Common.{◌≡◌, ℕ, ◌+◌, ◌-◌, ◌/◌, ◌%◌, ◌^◌, ◌<◌, ◌≤◌, true, List, [], ◌∷◌, ◌++◌, length, get_or, Ok, sym, refl, ap, ◌∙◌, arith, length-append}
 use Rattle.std.proofs.lemmas.List.{take_at, get_or_at, get_or-append-add}
 use Rattle.std.proofs.lemmas.Bool.{eq-eqb}
 use Rattle.std.proofs.lemmas.Bool.Decides.{nat_tests}
-use Rattle.octets.specs.Bytes.{two_bytes, six_bytes, six_at, two_at, checksum_of}
-use Rattle.packets.specs.Packet.{packet_of, header_bytes, sealed, FieldsFit}
+use Rattle.octets.specs.Bytes.{two_bytes, six_at, two_at, checksum_of}
+use Rattle.packets.specs.Packet.{packet_of, header_bytes, FieldsFit}
 use Rattle.packets.specs.Opened.{starts, sized, summed, header_at, payload_at, opened}
 use Rattle.packets.specs.declared.packet.Header.{Header}
-use Rattle.packets.proofs.Packets.{length-packet}
 
 starts_from : (bytes : List ℕ) → 2 ≤ length bytes → get_or bytes 0 0 ≡ 0xCC → get_or bytes 1 0 ≡ 0x01 → starts bytes ≡ true
 unfolding starts

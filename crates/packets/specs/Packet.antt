@@ -1,5 +1,5 @@
 -- The bytes of an RDM packet.
-use Rattle.std.specs.Prelude.{ℕ, ◌+◌, ◌^◌, ◌<◌, ◌≤◌, List, [], ◌∷◌, ◌++◌, length}
+use Rattle.std.specs.Prelude.{ℕ, ◌+◌, ◌^◌, ◌<◌, List, [], ◌∷◌, ◌++◌, length}
 use Rattle.octets.specs.Bytes.{two_bytes, six_bytes, checksum_of}
 use Rattle.packets.specs.declared.packet.Header.{Header}
 

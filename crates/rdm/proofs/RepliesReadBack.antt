@@ -1,12 +1,9 @@
 -- Each reply reads back as itself.
-use Rattle.std.proofs.Common.{◌≡◌, ℕ, ◌+◌, ◌-◌, ◌^◌, ◌<◌, true, length, Some, None, Ok, refl, ap, ◌∙◌, arith}
+use Rattle.std.proofs.Common.{◌≡◌, ◌-◌, ◌^◌, ◌<◌, true, length, Some, Ok, refl, ap, ◌∙◌, arith}
 use Rattle.std.proofs.lemmas.Bool.Decides.{nat_tests}
 use Rattle.packets.specs.Packet.{FieldsFit}
-use Rattle.packets.specs.Parameter.{class_of, pid_of}
 use Rattle.rdm.specs.ReadReply.{matches, response_at, reply_in, reply_at, expected_by, with_response}
 use Rattle.rdm.specs.Reply.{reply_parameter, response_of, response_code, reply_header, reply_payload, reply_frame}
-use Rattle.packets.specs.declared.parameter.Parameter.{Parameter}
-use Rattle.packets.specs.declared.parameter.Parameter.TheVariants as parameter
 use Rattle.rdm.specs.declared.received.Received.{Received}
 use Rattle.rdm.specs.declared.reply.Reply.{Reply}
 use Rattle.rdm.specs.declared.reply.Reply.TheVariants.{Muted, UnMuted, Info, AddressTaken, AddressRefused}

@@ -2,9 +2,6 @@
 use Rattle.std.specs.Prelude.{ℕ, ◌-◌, ◌^◌, cond, List, [], ◌++◌, Some, None, Option, nat_lt}
 use Rattle.keys.specs.Address.{in_family}
 use Rattle.keys.specs.Uid.{uid_number}
-use Rattle.keys.specs.declared.address.Address.{Address}
-use Rattle.keys.specs.declared.range.Range.{Range}
-use Rattle.keys.specs.declared.uid.Uid.{Uid}
 use Rattle.refusals.specs.declared.Refusal.{Refusal}
 use Rattle.refusals.specs.declared.Refusal.TheVariants.{LowerAboveUpper, AddressOutside}
 use Rattle.octets.specs.Bytes.{two_bytes, six_bytes}

@@ -1,11 +1,9 @@
 -- What is read of the reply of the one fixture that was asked.
 use Rattle.std.proofs.Common.{◌≡◌, ℕ, ◌+◌, ◌-◌, ◌*◌, ◌/◌, ◌%◌, ◌^◌, ◌<◌, ◌≤◌, Bool, true, false, cond, ◌&&◌, eqb, leb, is_some, IfSome, Some, None, Ok, Option, sym, refl, ap, ◌∙◌, subst, ap₂, arith}
-use Rattle.std.proofs.lemmas.Bool.{lt-ltb, and_parts, leb-true, ne_eqb}
+use Rattle.std.proofs.lemmas.Bool.{and_parts, leb-true, ne_eqb}
 use Rattle.std.proofs.lemmas.Bool.Decides.{nat_tests}
 use Rattle.std.specs.Option.{option_map}
 use Rattle.keys.specs.Address.{in_family}
-use Rattle.keys.specs.KeyNumbers.{is_uid_number}
-use Rattle.keys.specs.Uid.{uid_number}
 use Rattle.keys.specs.declared.address.Address.{Address}
 use Rattle.keys.specs.declared.uid.Uid.{Uid}
 use Rattle.refusals.specs.declared.Refusal.TheVariants.{AddressOutside}

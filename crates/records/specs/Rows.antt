@@ -1,5 +1,5 @@
 -- The rows of a book.
-use Rattle.std.specs.Prelude.{ℕ, List, [], ◌∷◌, map, None, nat_lt}
+use Rattle.std.specs.Prelude.{ℕ, List, map, None, nat_lt}
 use Rattle.std.specs.List.{prefix_len, insert}
 use Rattle.records.specs.declared.record.Record.{Record}
 

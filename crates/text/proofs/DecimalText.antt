@@ -7,7 +7,7 @@ use Rattle.std.proofs.lemmas.Bool.Decides.{nat_tests}
 use Rattle.std.specs.Char.{is_ascii_digit}
 use Rattle.std.specs.Str.{all_ascii_digits}
 use Rattle.text.specs.Decimal.{fits_decimal, decimal_at}
-use Rattle.text.specs.Digits.{digit_in, digit_of, and_then, digits_after}
+use Rattle.text.specs.Digits.{digit_in, and_then, digits_after}
 
 abbrev read_on : ℕ → List ℕ → ℕ
 read_on n [] = n

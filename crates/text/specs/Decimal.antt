@@ -1,5 +1,5 @@
 -- Decimal text.
-use Rattle.std.specs.Prelude.{ℕ, Bool, cond, not, ◌&&◌, ◌||◌, List, length, Some, None, Option, ◌==◌, nat_le, slice_index}
+use Rattle.std.specs.Prelude.{ℕ, Bool, cond, not, ◌&&◌, ◌||◌, List, length, None, Option, ◌==◌, nat_le, slice_index}
 use Rattle.text.specs.Digits.{digits_after}
 
 -- One to seven characters, and no leading zero but 0 alone.

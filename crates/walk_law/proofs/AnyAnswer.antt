@@ -1,19 +1,18 @@
 -- What a walk keeps whatever is answered.
-use Rattle.std.proofs.Common.{◌≡◌, ℕ, suc, ◌+◌, ◌^◌, ◌<◌, ◌≤◌, Bool, true, false, cond, not, ◌&&◌, ltb, leb, List, [], ◌∷◌, length, Some, None, Option, sym, refl, ap, ◌∙◌, subst, arith}
-use Rattle.std.proofs.lemmas.Bool.{and_parts, and_from, cond_both, cond-true, leb-false, le-leb, ltb-true, both_ways}
+use Rattle.std.proofs.Common.{◌≡◌, ℕ, suc, ◌≤◌, Bool, true, false, not, ◌&&◌, ltb, List, [], ◌∷◌, length, Some, None, Option, sym, refl, ap, subst, arith}
+use Rattle.std.proofs.lemmas.Bool.{and_parts, cond_both, cond-true, leb-false, le-leb, ltb-true}
 use Rattle.keys.specs.declared.range.Range.{Range}
 use Rattle.lines.specs.declared.answers.ProbeAnswer.{ProbeAnswer}
 use Rattle.lines.specs.declared.answers.ProbeAnswer.TheVariants.{Silent, Clear, Garbled}
 use Rattle.refusals.specs.declared.Refusal.{Refusal}
-use Rattle.walk_law.specs.Law.{Answered, at_first, then_heard, KeepsInBounds}
-use Rattle.walk_law.specs.Nested.{nested, keeps_shape, is_pending}
-use Rattle.walk_law.specs.Ranks.{is_in, put_in, Ascends}
-use Rattle.walk_law.specs.Walk.{Walk, begun, heard, after_answer, after_probe, after_hush, after_yes, after_no, hush_next, split_off, dropped, ended, is_one, in_range, phase_over, refusal_in, unless_refused, in_memory, most_pending, heard_by_rules, refusal_of}
+use Rattle.walk_law.specs.Nested.{nested, keeps_shape}
+use Rattle.walk_law.specs.Ranks.{is_in, Ascends}
+use Rattle.walk_law.specs.Walk.{Walk, heard, after_answer, after_probe, after_hush, hush_next, split_off, ended, is_one, in_range, phase_over, refusal_in, unless_refused, in_memory, most_pending, heard_by_rules}
 use Rattle.walk_law.specs.declared.phase.Phase.{Phase}
 use Rattle.walk_law.specs.declared.phase.Phase.TheVariants.{Walking, Walked, Laid, Set, Full, Contradicted}
 use Rattle.walk_law.specs.declared.question.Answer.{Answer}
 use Rattle.walk_law.specs.declared.question.Answer.TheVariants as answer
-use Rattle.walk_law.proofs.NestedRanges.{Nested, facts, tested, nested_all, nested_next, nested_halves}
+use Rattle.walk_law.proofs.NestedRanges.{Nested, facts, tested, nested_next, nested_halves}
 use Rattle.walk_law.proofs.RankLists.{length-put_in, ascends_put_in}
 
 module _ (levels top places : ℕ) (few_levels : levels ≤ 48) where

@@ -1,6 +1,6 @@
 -- Every answer that a line may give leads on.
-use Rattle.std.proofs.Common.{◌≡◌, ℕ, suc, ◌+◌, ◌*◌, ◌^◌, ◌<◌, ◌≤◌, Bool, true, false, cond, not, ◌&&◌, eqb, ltb, leb, ◌⊎◌, List, [], ◌∷◌, length, is_some, Some, None, Option, sym, refl, ap, ◌∙◌, subst, inl, inr, mul-le-mul, arith}
-use Rattle.std.proofs.lemmas.Bool.{and_parts, cases_Bool, cases_lt, cond_both, cond-false, both_ways, leb-true, leb-false, lt-leb, ltb-true, ltb-false, not-true}
+use Rattle.std.proofs.Common.{◌≡◌, ℕ, suc, ◌+◌, ◌*◌, ◌^◌, ◌<◌, ◌≤◌, Bool, true, false, cond, not, ◌&&◌, ltb, ◌⊎◌, List, [], ◌∷◌, length, is_some, Some, None, Option, sym, refl, ap, ◌∙◌, subst, inl, inr, mul-le-mul, arith}
+use Rattle.std.proofs.lemmas.Bool.{and_parts, cases_Bool, cases_lt, cond_both, both_ways, leb-true, leb-false, lt-leb, ltb-true, ltb-false, not-true}
 use Rattle.keys.specs.declared.range.Range.{Range}
 use Rattle.lines.specs.Meaning.{Fitted, Meaning, is_fitted, is_awake, awake_there}
 use Rattle.lines.specs.Rules.{Probed, hush_answer, hushed}
@@ -8,7 +8,7 @@ use Rattle.lines.specs.declared.answers.ProbeAnswer.{ProbeAnswer}
 use Rattle.lines.specs.declared.answers.ProbeAnswer.TheVariants.{Silent, Clear, Garbled}
 use Rattle.walk_law.specs.Ranks.{is_in, put_in}
 use Rattle.walk_law.specs.Run.{Honest, to_probe, to_hush, Step, Steps, no_step, then_step, range_ranks, probe_ranks, answer_ranks}
-use Rattle.walk_law.specs.Walk.{Walk, asked, heard, after_probe, after_hush, after_yes, after_no, after_answer, is_one, in_range, hush_next, split_off, dropped}
+use Rattle.walk_law.specs.Walk.{Walk, heard, after_probe, after_hush, after_yes, after_no, after_answer, is_one, in_range, hush_next, split_off, dropped}
 use Rattle.walk_law.specs.declared.phase.Phase.{Phase}
 use Rattle.walk_law.specs.declared.phase.Phase.TheVariants.{Walking, Walked, Laid, Set, Full, Contradicted}
 use Rattle.walk_law.specs.declared.question.Answer.{Answer}
@@ -16,7 +16,7 @@ use Rattle.walk_law.specs.declared.question.Answer.TheVariants as answer
 use Rattle.walk_law.proofs.AnyAnswer.{Kept, kept_answer, fits_memory}
 use Rattle.walk_law.proofs.Honest.{NoneAwakeBelow, none_in_silent, some_in_loud, hushed_unanswered}
 use Rattle.walk_law.proofs.Listing.{Laws}
-use Rattle.walk_law.proofs.Standing.{Walks, Stands, StandsIn, Due, owed, most, drops, ends, hushes, splits, lists, lists_and_drops, lists_and_ends, overflows}
+use Rattle.walk_law.proofs.Standing.{Walks, Stands, StandsIn, most, drops, ends, hushes, splits, lists, lists_and_drops, lists_and_ends, overflows}
 
 -- A walking walk, by its parts.
 abbrev pub walking : Range ℕ → List (Range ℕ) → Option ℕ → List ℕ → ℕ → Walk

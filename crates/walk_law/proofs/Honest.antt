@@ -1,8 +1,8 @@
 -- What honest answers say about awake keys.
-use Rattle.std.proofs.Common.{◌≡◌, ℕ, suc, ◌<◌, ◌≤◌, Bool, true, false, cond, ◌&&◌, eqb, ◌⊎◌, sym, refl, ap, ◌∙◌, inl, inr, arith}
-use Rattle.std.proofs.lemmas.Bool.{cases_Bool, cases_lt, cond_both, both_ways, and_left, cond-false}
+use Rattle.std.proofs.Common.{◌≡◌, ℕ, suc, ◌<◌, ◌≤◌, true, false, ◌&&◌, eqb, ◌⊎◌, refl, ◌∙◌, inl, inr, arith}
+use Rattle.std.proofs.lemmas.Bool.{cases_Bool, cases_lt, cond_both}
 use Rattle.keys.specs.declared.range.Range.{Range}
-use Rattle.lines.specs.Meaning.{Meaning, is_fitted, is_awake}
+use Rattle.lines.specs.Meaning.{Meaning, is_awake}
 use Rattle.lines.specs.Rules.{Probed, hush_answer, hushed}
 use Rattle.lines.specs.declared.answers.ProbeAnswer.{ProbeAnswer}
 use Rattle.lines.specs.declared.answers.ProbeAnswer.TheVariants.{Silent}

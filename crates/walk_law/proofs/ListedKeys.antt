@@ -1,16 +1,15 @@
 -- What an honest answer lists.
-use Rattle.std.proofs.Common.{◌≡◌, ℕ, suc, ◌^◌, ◌<◌, ◌≤◌, Bool, true, false, cond, not, ◌&&◌, ltb, leb, ◌⊎◌, List, [], ◌∷◌, length, Some, None, Option, sym, refl, ap, ◌∙◌, subst, inl, inr, arith}
+use Rattle.std.proofs.Common.{◌≡◌, ℕ, ◌^◌, ◌<◌, ◌≤◌, Bool, true, false, cond, not, ◌&&◌, ltb, List, [], ◌∷◌, length, Some, None, Option, sym, refl, ap, ◌∙◌, subst, arith}
 use Rattle.std.proofs.lemmas.Bool.{cond_both, lt-leb, ltb-true, and_parts, both_ways}
 use Rattle.keys.specs.declared.range.Range.{Range}
 use Rattle.lines.specs.Meaning.{Meaning}
 use Rattle.lines.specs.Rules.{hush_answer}
 use Rattle.lines.specs.declared.answers.ProbeAnswer.{ProbeAnswer}
 use Rattle.lines.specs.declared.answers.ProbeAnswer.TheVariants.{Silent, Clear, Garbled}
-use Rattle.refusals.specs.declared.Refusal.{Refusal}
-use Rattle.walk_law.specs.Listing.{is_new, lists_in, unless_refusal, lists_key}
+use Rattle.walk_law.specs.Listing.{is_new, lists_key}
 use Rattle.walk_law.specs.Ranks.{is_in, put_in}
 use Rattle.walk_law.specs.Run.{Honest, to_probe, to_hush, probe_ranks, answer_ranks}
-use Rattle.walk_law.specs.Walk.{Walk, heard, after_probe, after_hush, after_yes, after_no, is_one, in_range, refusal_in}
+use Rattle.walk_law.specs.Walk.{Walk, heard, after_probe, after_yes, after_no, is_one, in_range}
 use Rattle.walk_law.specs.declared.phase.Phase.{Phase}
 use Rattle.walk_law.specs.declared.phase.Phase.TheVariants.{Walking, Walked, Laid, Set, Full, Contradicted}
 use Rattle.walk_law.specs.declared.question.Answer.{Answer}

@@ -1,9 +1,9 @@
 -- The book of a walk over a line: it lists fitted keys that are not awake, and every other fitted key is awake.
-use Rattle.std.proofs.Common.{◌≡◌, ℕ, suc, ◌+◌, ◌*◌, ◌^◌, ◌<◌, ◌≤◌, Bool, true, false, cond, ◌&&◌, ◌||◌, eqb, ◌⊎◌, List, [], ◌∷◌, length, sym, refl, ap, ◌∙◌, inl, inr, arith}
-use Rattle.std.proofs.lemmas.Bool.{and_parts, and_from, or_cases, or_parts, eqb-true, eq-eqb, both_ways}
+use Rattle.std.proofs.Common.{◌≡◌, ℕ, ◌^◌, ◌<◌, ◌≤◌, true, false, cond, ◌&&◌, eqb, ◌⊎◌, List, [], length, sym, refl, ap, ◌∙◌, inl, inr, arith}
+use Rattle.std.proofs.lemmas.Bool.{and_parts, and_from, or_cases, or_parts, eqb-true, both_ways}
 use Rattle.std.specs.List.{AllByRecursion}
 use Rattle.lines.specs.Meaning.{Meaning, is_fitted, is_awake}
-use Rattle.lines.specs.Rules.{hush_answer, hushed, roused}
+use Rattle.lines.specs.Rules.{hush_answer, hushed}
 use Rattle.lines.proofs.Meanings.{live_hushed, fitted_hushed, awake_hushed}
 use Rattle.walk_law.specs.Ranks.{is_in, put_in, Ascends}
 use Rattle.walk_law.proofs.Honest.{hushed_asleep}

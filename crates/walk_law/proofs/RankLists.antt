@@ -1,9 +1,8 @@
 -- Lists of ranks.
-use Rattle.std.proofs.Common.{◌≡◌, ℕ, suc, ◌+◌, ◌<◌, ◌≤◌, Bool, true, false, cond, ◌||◌, eqb, ltb, ◌⊎◌, List, [], ◌∷◌, length, sym, refl, ap, ◌∙◌, inl, inr, arith}
-use Rattle.std.proofs.lemmas.Bool.{cond_both, ltb-true, ltb-false, eqb-true, eqb-false, or_parts, or_cases, ne_eqb, eq-eqb, both_ways, cases_order}
-use Rattle.std.proofs.lemmas.Bool.Decides.{nat_tests}
+use Rattle.std.proofs.Common.{◌≡◌, ℕ, suc, ◌<◌, ◌≤◌, Bool, true, false, ◌||◌, eqb, ltb, ◌⊎◌, List, [], ◌∷◌, length, sym, refl, ap, ◌∙◌, inl, inr, arith}
+use Rattle.std.proofs.lemmas.Bool.{cond_both, ltb-true, ltb-false, eqb-false, or_parts, ne_eqb, both_ways, cases_order}
 use Rattle.std.specs.List.{AllByRecursion}
-use Rattle.walk_law.specs.Ranks.{is_in, put_in, AscendsFrom, Ascends}
+use Rattle.walk_law.specs.Ranks.{is_in, put_in, AscendsFrom}
 
 pub length-put_in : (j : ℕ) (xs : List ℕ) → length (put_in j xs) ≡ suc (length xs)
 unfolding put_in

@@ -1,13 +1,12 @@
 -- The law of the walk, from what holds from answer to answer.
-use Rattle.std.proofs.Common.{◌≡◌, ℕ, suc, ◌+◌, ◌*◌, ◌^◌, ◌<◌, ◌≤◌, Bool, true, false, cond, not, ◌&&◌, ◌||◌, eqb, ◌⊎◌, List, [], ◌∷◌, map, length, is_some, Some, None, Option, Result, sym, refl, ap, ◌∙◌, subst, subst₂, inl, inr, mul-le-mul, arith}
+use Rattle.std.proofs.Common.{◌≡◌, ℕ, suc, ◌+◌, ◌*◌, ◌^◌, ◌<◌, ◌≤◌, true, false, eqb, ◌⊎◌, List, [], ◌∷◌, map, length, is_some, Some, None, Option, Result, sym, refl, ap, ◌∙◌, subst, subst₂, inl, inr, mul-le-mul, arith}
 use Rattle.std.proofs.ByRecursion.{All-weaker}
-use Rattle.std.proofs.lemmas.Bool.{both_ways, cases_Bool, or_right, or_left, or_cases, eq-eqb, eqb-true, and_parts}
+use Rattle.std.proofs.lemmas.Bool.{both_ways, cases_Bool, or_right, or_left, or_cases, eq-eqb, eqb-true}
 use Rattle.std.specs.List.{AllByRecursion}
 use Rattle.keys.specs.declared.range.Range.{Range}
-use Rattle.lines.specs.Meaning.{Meaning, is_fitted, is_awake}
+use Rattle.lines.specs.Meaning.{Meaning, is_fitted}
 use Rattle.refusals.specs.declared.Refusal.{Refusal}
-use Rattle.walk_law.specs.Law.{Answered, at_first, then_heard, Reached, ListsExactly, MoreFittedThan, most_questions, KeepsInBounds, FindsEveryFixture, LeadsOn}
-use Rattle.walk_law.specs.Nested.{nested, keeps_shape}
+use Rattle.walk_law.specs.Law.{Answered, at_first, then_heard, Reached, ListsExactly, MoreFittedThan, KeepsInBounds, FindsEveryFixture, LeadsOn}
 use Rattle.walk_law.specs.Ranks.{is_in, put_in, Ascends}
 use Rattle.walk_law.specs.Run.{Honest, Step, then_step, answer_ranks}
 use Rattle.walk_law.specs.Walk.{Walk, begun, asked_in, heard, refusal_of, told, hearing_told, told_unless, unless_refused, in_memory, after_answer}
@@ -16,10 +15,10 @@ use Rattle.walk_law.specs.declared.phase.Phase.TheVariants.{Walking, Walked, Lai
 use Rattle.walk_law.specs.declared.question.Answer.{Answer}
 use Rattle.walk_law.proofs.AnyAnswer.{Kept, kept_heard, shape_over, pending_few, heard_is_by_rules}
 use Rattle.walk_law.proofs.Going.{asked_less, steps_stand, step_counts}
-use Rattle.walk_law.proofs.Listing.{Laws, Listing, listing_none}
-use Rattle.walk_law.proofs.NestedRanges.{Nested, facts, tested, nested_all}
+use Rattle.walk_law.proofs.Listing.{Laws, listing_none}
+use Rattle.walk_law.proofs.NestedRanges.{tested, nested_all}
 use Rattle.walk_law.proofs.RankLists.{is_in_put_in, length-put_in, ascends_put_in, all_put_in, length-within}
-use Rattle.walk_law.proofs.Standing.{Walks, Found, Overflows, Stands, StandsIn, begins}
+use Rattle.walk_law.proofs.Standing.{Found, Overflows, Stands, StandsIn, begins}
 
 module _ (levels top places : ℕ) (few_levels : levels ≤ 48) (narrow : top < 2 ^ levels) where
   pub answered_kept : (w : Walk) → Answered top places w → Kept levels top places few_levels w

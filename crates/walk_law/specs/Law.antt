@@ -1,12 +1,12 @@
 -- The law of the walk, over whole runs.
-use Rattle.std.specs.Prelude.{◌≡◌, ℕ, suc, ◌+◌, ◌*◌, ◌<◌, ◌≤◌, true, false, ◌⊎◌, List, map, length, is_some, Result}
+use Rattle.std.specs.Prelude.{◌≡◌, ℕ, suc, ◌+◌, ◌*◌, ◌<◌, ◌≤◌, true, ◌⊎◌, List, map, length, is_some, Result}
 use Rattle.std.specs.List.{AllByRecursion}
 use Rattle.refusals.specs.declared.Refusal.{Refusal}
 use Rattle.lines.specs.Meaning.{Meaning, is_fitted, is_awake}
 use Rattle.walk_law.specs.Ranks.{is_in, Ascends}
 use Rattle.walk_law.specs.Run.{Steps}
 use Rattle.walk_law.specs.Walk.{Walk, begun, asked, heard, heard_by_rules, told}
-use Rattle.walk_law.specs.declared.phase.Phase.TheVariants.{Walking, Walked, Full, Contradicted}
+use Rattle.walk_law.specs.declared.phase.Phase.TheVariants.{Walking, Walked, Full}
 use Rattle.walk_law.specs.declared.question.Answer.{Answer}
 
 -- A walk that answers of any kind have led to, honest or not.

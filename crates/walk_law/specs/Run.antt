@@ -1,13 +1,11 @@
 -- Walks over a line: which answers lead from one walk to the next, and what a walk that ended has found.
-use Rattle.std.specs.Prelude.{◌≡◌, ℕ, suc, ◌+◌, ◌*◌, ◌^◌, ◌<◌, ◌≤◌, true, false, List, map, length, Some}
-use Rattle.std.specs.List.{AllByRecursion}
+use Rattle.std.specs.Prelude.{◌≡◌, ℕ, suc, Some}
 use Rattle.keys.specs.declared.range.Range.{Range}
-use Rattle.lines.specs.Meaning.{Meaning, is_fitted, is_awake}
+use Rattle.lines.specs.Meaning.{Meaning}
 use Rattle.lines.specs.Rules.{Probed, hush_answer, hushed}
 use Rattle.lines.specs.declared.answers.ProbeAnswer.{ProbeAnswer}
 use Rattle.lines.specs.declared.answers.ProbeAnswer.TheVariants.{Silent, Clear, Garbled}
-use Rattle.walk_law.specs.Ranks.{is_in, Ascends}
-use Rattle.walk_law.specs.Walk.{Walk, begun, asked, heard}
+use Rattle.walk_law.specs.Walk.{Walk, asked, heard}
 use Rattle.walk_law.specs.declared.question.Answer.{Answer}
 use Rattle.walk_law.specs.declared.question.Answer.TheVariants as answer
 use Rattle.walk_law.specs.declared.question.Question.{Question}

@@ -1,6 +1,5 @@
-use Rattle.std.proofs.Common.{◌≡◌, ◌+◌, ◌*◌, ◌<◌, sym, ap, ◌∙◌, arith, rules}
+use Rattle.std.proofs.Common.{◌<◌, sym, ◌∙◌, arith, rules}
 use lib.Bits.{and_le_l}
-use Rattle.branch.specs.BranchReply.{carried_after}
 use Rattle.branch.proofs.Pairs.{drop_pairs, carried_short, carried_step, carry_fits}
 use Rattle.branch.proofs.carried_number.Goals as goal
 

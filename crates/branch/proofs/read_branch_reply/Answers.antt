@@ -1,4 +1,4 @@
-use Rattle.std.proofs.Common.{ℕ, ◌<◌, get_or, Err, ap, ◌∙◌, rules}
+use Rattle.std.proofs.Common.{ap, ◌∙◌, rules}
 use Rattle.std.proofs.ByRecursion.{All-from_get_or}
 use Rattle.branch.specs.BranchReply.{branch_read, rest_read}
 use Rattle.branch.proofs.BranchOnly.{answer_only}

@@ -1,4 +1,4 @@
-use Rattle.std.proofs.Common.{◌≡◌, ℕ, ◌≤◌, drop, None, Ok, arith}
+use Rattle.std.proofs.Common.{◌≡◌, ℕ, ◌≤◌, drop, None, Ok}
 use Rattle.keys.specs.Uid.{uid_number}
 use Rattle.branch.specs.BranchReply.{branch_reply, branch_read}
 use Rattle.branch.proofs.BranchReadBack.{branch_reads_back}

@@ -1,4 +1,4 @@
-use Rattle.std.proofs.Common.{ap, rules}
+use Rattle.std.proofs.Common.{ap}
 use Rattle.rdm.specs.Received.{question_at, question_in}
 use Rattle.rdm.proofs.received.read_question.Goals as goal
 

@@ -1,4 +1,4 @@
-use Rattle.std.proofs.Common.{◌-◌, min, length, take, ap, ◌∙◌}
+use Rattle.std.proofs.Common.{take, ap, ◌∙◌}
 use native.Mathlib.Nat.{sub-zero}
 use Rattle.discovery.proofs.Rows.{take-least}
 use Rattle.discovery.proofs.book.Book.rows.Goals as goal

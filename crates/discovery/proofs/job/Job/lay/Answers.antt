@@ -1,4 +1,4 @@
-use Rattle.std.proofs.Common.{◌≡◌, ◌++◌, drop, Ok, Err, sym, ap, ◌∙◌}
+use Rattle.std.proofs.Common.{◌++◌, drop, Err, sym, ap, ◌∙◌}
 use borrow.Rule.Slice.Mut.{set_vals}
 use Rattle.std.proofs.lemmas.Result.{err_from_is_err_and}
 use Rattle.job_law.specs.Calls.{refused_or_done, widths_refusal}

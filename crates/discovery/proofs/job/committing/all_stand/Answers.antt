@@ -1,4 +1,4 @@
-use Rattle.std.proofs.Common.{◌≡◌, sym, ap, ◌∙◌, rules}
+use Rattle.std.proofs.Common.{sym, ap, ◌∙◌, rules}
 use Rattle.job_law.specs.Numbering.{row_stands}
 use Rattle.discovery.proofs.Standing.{stand_next, not_all_stand, stand_all}
 use Rattle.discovery.proofs.job.committing.all_stand.Goals as goal

@@ -1,4 +1,4 @@
-use Rattle.std.proofs.Common.{◌≡◌, ◌+◌, drop, sym, ap, ◌∙◌, rules}
+use Rattle.std.proofs.Common.{◌+◌, drop, ap, ◌∙◌, rules}
 use Rattle.job_law.specs.Numbering.{all_written}
 use Rattle.discovery.proofs.Standing.{written_next, written_all}
 use Rattle.discovery.proofs.job.committing.write_rows.Goals as goal

@@ -1,4 +1,4 @@
-use Rattle.std.proofs.Common.{◌≡◌, ◌+◌, ◌-◌, ◌<◌, ◌++◌, length, take, drop, sum, sym, ap, ◌∙◌, subst, arith}
+use Rattle.std.proofs.Common.{◌≡◌, ◌+◌, ◌-◌, ◌<◌, ◌++◌, take, drop, sum, sym, ap, ◌∙◌, subst, arith}
 use Rattle.job_law.specs.Numbering.{numbered, told_widths}
 use Rattle.discovery.proofs.Rows.{take-least, drop_least}
 use Rattle.discovery.proofs.job.laying.number_rows.Goals as goal

@@ -1,4 +1,4 @@
-use Rattle.std.proofs.Common.{◌≡◌, ◌+◌, drop, sym, refl, ap, ◌∙◌, arith, rules}
+use Rattle.std.proofs.Common.{◌+◌, drop, sym, refl, ap, ◌∙◌, arith, rules}
 use Rattle.lines.specs.Rules.{query_answer}
 use Rattle.discovery.proofs.Totals.{total_on, total_start, total_next, total_silence, total_all}
 use Rattle.discovery.proofs.job.laying.total_width.Goals as goal

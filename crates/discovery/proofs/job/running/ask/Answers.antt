@@ -1,4 +1,3 @@
-use Rattle.std.proofs.Common.{refl}
 use Rattle.discovery.specs.Books.{rows_of}
 use Rattle.discovery.specs.Walks.{walk_of}
 use Rattle.discovery.proofs.Asking.{honest_reply, book_unlisted, book_listed}

@@ -1,6 +1,5 @@
-use Rattle.std.proofs.Common.{sym, subst, add-one}
-use Rattle.job_law.specs.Calls.{Questions, no_question, then_asks}
-use Rattle.discovery.specs.Jobs.{scene_of}
+use Rattle.std.proofs.Common.{add-one}
+use Rattle.job_law.specs.Calls.{no_question, then_asks}
 use Rattle.discovery.proofs.job.running.ask_on.Goals as goal
 
 pub loop-heard-init : goal.loop-heard-init

@@ -1,4 +1,4 @@
-use Rattle.std.proofs.Common.{◌≡◌, sym, ap, ◌∙◌, arith}
+use Rattle.std.proofs.Common.{sym, ap, ◌∙◌, arith}
 use Rattle.discovery.specs.Pending.{without_first}
 use Rattle.discovery.proofs.Stacks.{stacked_empty, stacked_rest}
 use Rattle.discovery.proofs.pending.Pending.drop_first.Goals as goal

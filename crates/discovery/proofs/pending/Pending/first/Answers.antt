@@ -1,4 +1,4 @@
-use Rattle.std.proofs.Common.{◌≡◌, sym, ap, arith}
+use Rattle.std.proofs.Common.{sym, ap, arith}
 use Rattle.discovery.specs.Pending.{first_of}
 use Rattle.discovery.proofs.Stacks.{stacked_empty, stacked_top}
 use Rattle.discovery.proofs.pending.Pending.first.Goals as goal

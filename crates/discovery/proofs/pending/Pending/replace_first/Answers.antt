@@ -1,4 +1,4 @@
-use Rattle.std.proofs.Common.{◌≡◌, ◌⊎◌, ◌∷◌, sym, refl, ap, ◌∙◌, inl, inr, ⊎_elim, arith}
+use Rattle.std.proofs.Common.{◌∷◌, sym, refl, ap, ◌∙◌, inl, inr, ⊎_elim, arith}
 use Rattle.walk_law.specs.Run.{range_ranks}
 use Rattle.discovery.proofs.Stacks.{stacked_halves, stacked_rest, memory_left, no_memory_left}
 use Rattle.discovery.proofs.pending.Pending.replace_first.Goals as goal

@@ -1,5 +1,4 @@
-use Rattle.std.proofs.Common.{◌≡◌, Some, sym, refl, ap, ◌∙◌}
-use Rattle.std.specs.Option.{option_map}
+use Rattle.std.proofs.Common.{Some, sym, ap, ◌∙◌}
 use Rattle.records.specs.Rows.{row_ranks}
 use Rattle.walk_law.specs.Run.{range_ranks}
 use Rattle.walk_law.specs.Walk.{in_memory}

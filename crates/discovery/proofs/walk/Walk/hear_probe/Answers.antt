@@ -1,7 +1,6 @@
-use Rattle.std.proofs.Common.{◌≡◌, sym, ap, ◌∙◌}
+use Rattle.std.proofs.Common.{sym, ap, ◌∙◌}
 use Rattle.std.specs.Option.{option_map}
 use Rattle.records.specs.Rows.{row_ranks}
-use Rattle.lines.specs.declared.answers.ProbeAnswer.TheVariants.{Silent}
 use Rattle.walk_law.specs.Run.{range_ranks, probe_ranks}
 use Rattle.walk_law.specs.Walk.{in_memory, after_probe}
 use Rattle.discovery.specs.Books.{rows_of}

@@ -1,13 +1,12 @@
-use Rattle.std.proofs.Common.{◌≡◌, suc, ◌<◌, Bool, true, false, not, ◌&&◌, ltb, length, take, None, sym, refl, ap, ◌∙◌}
+use Rattle.std.proofs.Common.{◌≡◌, true, false, not, ◌&&◌, ltb, length, take, sym, refl, ap, ◌∙◌}
 use Rattle.std.proofs.lemmas.Bool.{ltb-true, ltb-false}
 use Rattle.std.specs.Option.{option_map}
 use Rattle.records.specs.Rows.{row_ranks}
 use Rattle.walk_law.specs.Ranks.{put_in}
 use Rattle.walk_law.specs.Run.{range_ranks}
-use Rattle.walk_law.specs.Walk.{going_on}
-use Rattle.discovery.specs.Books.{rows_of, places_of, memory_of}
-use Rattle.discovery.specs.Pending.{ranks_of, without_first}
-use Rattle.discovery.specs.Walks.{standing, with_probe}
+use Rattle.discovery.specs.Books.{rows_of, places_of}
+use Rattle.discovery.specs.Pending.{ranks_of}
+use Rattle.discovery.specs.Walks.{standing}
 use Rattle.discovery.proofs.Hearing.{yes_of_listed, yes_of_full, yes_of_several, yes_of_one}
 use Rattle.discovery.proofs.Rows.{free_place, ranks_listed, book_same, book_more}
 use Rattle.discovery.proofs.Stacks.{few_pending}

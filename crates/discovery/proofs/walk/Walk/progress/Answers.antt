@@ -1,4 +1,4 @@
-use Rattle.std.proofs.Common.{◌≡◌, ◌≤◌, arith, rules}
+use Rattle.std.proofs.Common.{arith}
 use Rattle.walk_law.proofs.WholeRuns.{in_bounds, finds_every_fixture}
 use Rattle.discovery.specs.Books.{rows_of, places_of}
 use Rattle.discovery.specs.Walks.{walk_of}

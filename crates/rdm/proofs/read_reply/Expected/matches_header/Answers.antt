@@ -1,4 +1,4 @@
-use Rattle.std.proofs.Common.{arith, rules}
+use Rattle.std.proofs.Common.{arith}
 use Rattle.std.proofs.lemmas.Bool.Decides.{nat_tests}
 use Rattle.rdm.specs.ReadReply.{matches}
 use Rattle.rdm.proofs.read_reply.Expected.matches_header.Goals as goal

@@ -1,8 +1,7 @@
-use Rattle.std.proofs.Common.{◌≡◌, true, sym, refl, ◌∙◌}
+use Rattle.std.proofs.Common.{true, sym, refl, ◌∙◌}
 use Rattle.std.proofs.lemmas.Bool.{both_ways}
 use Rattle.walk_law.proofs.Listing.{Laws}
 use Rattle.job_law.specs.Chain.{opens}
-use Rattle.discovery.specs.Chains.{state_of}
 use Rattle.discovery.proofs.Chaining.{goes_on, open_alone}
 use Rattle.discovery.proofs.FamilyLaws.{laws_from}
 use Rattle.discovery.proofs.job.chain.NewestJob.then.Given as given
