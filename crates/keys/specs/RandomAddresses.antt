@@ -1,5 +1,6 @@
 -- The laws of random addresses.
 use Rattle.std.specs.Prelude.{◌≡◌, ℕ, ◌^◌, ◌<◌, ◌≤◌, nat_lt, refl}
+use Rattle.std.specs.Ordering.{nat_cmp}
 use mathlib.Core.HLevel.{is_prop→PathP}
 use Rattle.std.proofs.Common.{arith}
 use Rattle.std.proofs.Math.Bridge.{le_prop}
@@ -13,6 +14,10 @@ same_from_rank x y e =
       value = e i;
       narrow = is_prop→PathP (λ j. e j < 2 ^ 24) (λ j. le_prop) x.narrow y.narrow i;
     }
+
+pub in_order_of_rank : (x y : RandomAddress) → nat_cmp x.value y.value ≡ nat_cmp (random_rank x) (random_rank y)
+unfolding random_rank
+in_order_of_rank x y = refl
 
 pub rank_within : (x : RandomAddress) → random_rank x ≤ random_top
 unfolding random_rank

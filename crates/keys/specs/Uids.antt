@@ -1,5 +1,9 @@
 -- The laws of unique identifiers.
 use Rattle.std.specs.Prelude.{◌≡◌, ℕ, ◌+◌, ◌-◌, ◌*◌, ◌/◌, ◌%◌, ◌^◌, ◌<◌, ◌≤◌, nat_lt, refl}
+use Rattle.std.specs.Ordering.{MatchOrdering, nat_cmp, ordering_then}
+use Rattle.std.specs.declared.cmp.Ordering.{Ordering}
+use Rattle.std.specs.declared.cmp.Ordering.TheVariants.{Less, Equal, Greater}
+use Rattle.std.specs.Cmp.{nat_cmp_is, ranks}
 use mathlib.Core.HLevel.{is_prop→PathP}
 use Rattle.std.proofs.Common.{arith}
 use Rattle.std.proofs.Math.Bridge.{le_prop}
@@ -20,6 +24,36 @@ uid_from_parts x y m d =
 pub same_from_rank : (x y : Uid) → uid_rank x ≡ uid_rank y → x ≡ y
 unfolding uid_rank
 same_from_rank x y e = uid_from_parts x y (omega arith) (omega arith)
+
+-- Manufacturer first: two identifiers stand as their manufacturers do, and where these are the same, as their devices do.
+manufacturer_first : (m n d e : ℕ) → d < 2 ^ 32 → e < 2 ^ 32 → (p q : Ordering) → MatchOrdering p (m < n) (m ≡ n) (n < m) → MatchOrdering q (d < e) (d ≡ e) (e < d) → MatchOrdering (ordering_then p q) (m * 2 ^ 32 + d < n * 2 ^ 32 + e) (m * 2 ^ 32 + d ≡ n * 2 ^ 32 + e) (n * 2 ^ 32 + e < m * 2 ^ 32 + d)
+manufacturer_first m n d e narrow narrow' Less q h k = omega arith
+manufacturer_first m n d e narrow narrow' Equal Less h k = omega arith
+manufacturer_first m n d e narrow narrow' Equal Equal h k = omega arith
+manufacturer_first m n d e narrow narrow' Equal Greater h k = omega arith
+manufacturer_first m n d e narrow narrow' Greater q h k = omega arith
+
+-- Identifiers compare as their ranks do.
+pub in_order_of_rank : (x y : Uid) → ordering_then (nat_cmp x.manufacturer y.manufacturer) (nat_cmp x.device y.device) ≡ nat_cmp (uid_rank x) (uid_rank y)
+unfolding uid_rank
+in_order_of_rank x y =
+    nat_cmp_is
+    (uid_rank x)
+    (uid_rank y)
+    _
+    (
+    manufacturer_first
+    x.manufacturer
+    y.manufacturer
+    x.device
+    y.device
+    x.narrow
+    y.narrow
+    (nat_cmp x.manufacturer y.manufacturer)
+    (nat_cmp x.device y.device)
+    (ranks x.manufacturer y.manufacturer)
+    (ranks x.device y.device)
+    )
 
 pub rank_within : (x : Uid) → uid_rank x ≤ uid_top
 unfolding uid_rank

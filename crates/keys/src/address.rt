@@ -4,7 +4,7 @@ ghost use Rattle.keys.specs.Address.{in_family};
 
 use crate::family::Family;
 
-#[derive(Clone, Copy)]
+#[derive(Clone, Copy, PartialEq, Eq)]
 pub struct Address {
     pub slot: u16,
 }

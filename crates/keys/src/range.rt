@@ -2,9 +2,9 @@
 ghost use Rattle.keys.specs.Family.{Halves};
 
 use crate::family::Family;
-use crate::order::{after, half, is_below};
+use crate::order::{after, half};
 
-#[derive(Clone, Copy)]
+#[derive(Clone, Copy, PartialEq, Eq)]
 pub struct Range<K> {
     pub lo: K,
     pub hi: K,
@@ -14,7 +14,7 @@ pub struct Range<K> {
 pub fn split<K: Family>(range: Range<K>) -> Option<(Range<K>, Range<K>)>
     ensures { Halves K.rank range result }
 {
-    if !is_below(range.lo, range.hi) {
+    if range.hi <= range.lo {
         return None;
     }
     let middle = half(range.lo, range.hi);
@@ -22,11 +22,8 @@ pub fn split<K: Family>(range: Range<K>) -> Option<(Range<K>, Range<K>)>
         lo: range.lo,
         hi: middle,
     };
-    let Some(next) = after(middle) else {
-        return None;
-    };
     let upper = Range {
-        lo: next,
+        lo: after(middle)?,
         hi: range.hi,
     };
     Some((lower, upper))

@@ -2,7 +2,7 @@
 ghost use Rattle.std.specs.Prelude.{◌+◌, ◌-◌, ◌*◌, ◌^◌, ◌<◌};
 
 // FFFFFFFFFFFF is the broadcast and no key, so it is no value of this type.
-#[derive(Clone, Copy)]
+#[derive(Clone, Copy, PartialEq, Eq, PartialOrd, Ord)]
 pub struct Uid {
     pub manufacturer: u16,
     pub device: u32,

@@ -1,6 +1,6 @@
 // Random addresses as a family of keys.
 ghost use Rattle.keys.specs.RandomAddress.{random_rank, random_top};
-ghost use Rattle.keys.specs.RandomAddresses.{same_from_rank, rank_within, with_rank, random_top_below_power, random_levels_in_bounds, random_addresses_in_bounds};
+ghost use Rattle.keys.specs.RandomAddresses.{same_from_rank, in_order_of_rank, rank_within, with_rank, random_top_below_power, random_levels_in_bounds, random_addresses_in_bounds};
 
 use crate::family::Family;
 use crate::random_address::RandomAddress;
@@ -19,6 +19,8 @@ impl Family for RandomAddress {
     ghost count = { 64 };
 
     ghost same_rank_same_key = { same_from_rank };
+
+    ghost ordered_by_rank = { in_order_of_rank };
 
     ghost no_rank_above_top = { rank_within };
 

@@ -1,6 +1,6 @@
 // Unique identifiers as a family of keys.
 ghost use Rattle.keys.specs.Uid.{uid_rank, uid_top};
-ghost use Rattle.keys.specs.Uids.{same_from_rank, rank_within, with_rank, uid_top_below_power, uid_levels_in_bounds, uid_addresses_in_bounds};
+ghost use Rattle.keys.specs.Uids.{same_from_rank, in_order_of_rank, rank_within, with_rank, uid_top_below_power, uid_levels_in_bounds, uid_addresses_in_bounds};
 
 use crate::family::Family;
 use crate::uid::Uid;
@@ -19,6 +19,8 @@ impl Family for Uid {
     ghost count = { 512 };
 
     ghost same_rank_same_key = { same_from_rank };
+
+    ghost ordered_by_rank = { in_order_of_rank };
 
     ghost no_rank_above_top = { rank_within };
 

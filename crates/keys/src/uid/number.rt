@@ -8,6 +8,7 @@ use crate::uid::Uid;
 pub const BROADCAST: u64 = 0xFFFF_FFFF_FFFF;
 
 impl Uid {
+    // A method and no `From`: a key has two numbers, this one and its rank, and `u64::from(key)` would not say which.
     // Manufacturer first.
     pub fn number(self) -> u64
         ensures value { result ≡ uid_number self }
