@@ -1,3 +1,4 @@
 pub mod Buffer
 pub mod Bytes
+pub mod Writer
 pub mod Writers

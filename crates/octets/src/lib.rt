@@ -5,3 +5,4 @@
 pub mod buffer;
 pub mod checksum;
 pub mod numbers;
+pub mod writer;
