@@ -25,5 +25,6 @@ pub fn write_bytes(bytes: &[u8], buf: &mut [u8]) -> Result<usize, Refusal>
     if buf.len() < bytes.len() {
         return Err(Refusal::BufferTooShort);
     }
-    Ok(put(buf, 0, bytes))
+    buf[..bytes.len()].copy_from_slice(bytes);
+    Ok(bytes.len())
 }
