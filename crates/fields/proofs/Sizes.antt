@@ -5,7 +5,7 @@ use Rattle.std.specs.Option.{option_map}
 use Rattle.octets.proofs.Buffers.{take-begun}
 use Rattle.text.specs.Digits.{and_then}
 use Rattle.text.specs.Hexadecimal.{hex_pairs, bytes_of, hex_bytes, bytes_read, bytes_left}
-use Rattle.text.proofs.HexText.{length-bytes}
+use Rattle.text.proofs.HexText.{length_bytes}
 use Rattle.fields.specs.Fields.{space_at, field_at, last_field, bytes_in, last_bytes, bytes_begun, BytesAt, same_word}
 
 cond_found : {X : Type 0} (b : Bool) (x y : Option X) (P : X → Type 0) → IfSome x P → IfSome y P → IfSome (cond b x y) P
@@ -33,7 +33,7 @@ field_short (suc n) line =
 bytes_short : (text : List ℕ) → IfSome (bytes_in text) (λ bytes. 2 * length bytes ≤ length text)
 bytes_short text =
     let P : List ℕ → Type 0 = λ bytes. 2 * length bytes ≤ length text in
-    let size = length-bytes text in
+    let size = length_bytes text in
     cond_found (same_word text (codes "-")) (Some []) (cond (eqb (length text) 0) None (hex_bytes text)) P (omega arith)
     (cond_found (eqb (length text) 0) None (hex_bytes text) P tt
     (cond_found (hex_pairs text) (Some (bytes_of text)) None P (omega arith) tt))

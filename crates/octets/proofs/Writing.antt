@@ -1,15 +1,27 @@
 -- Texts written one behind the other.
-use Rattle.std.proofs.Common.{List, ◌++◌, ℕ, sym, ap, ◌∙◌, arith, length-append}
+use Rattle.std.proofs.Common.{◌≡◌, subst, List, [], ◌++◌, ℕ, ◌+◌, take, drop, sym, refl, ap, ◌∙◌, arith, length-append}
+use Rattle.std.proofs.lemmas.List.{take-append-drop}
 use Rattle.octets.specs.Buffer.{put_at}
 use Rattle.octets.specs.Writer.{Wrote}
 use Rattle.octets.specs.declared.writer.Writer.{Writer}
 use Rattle.octets.proofs.Buffers.{put-put}
 
+pub wrote_nothing : (w : Writer) → Wrote w [] w
+wrote_nothing w =
+    let here : w.end + 0 ≡ w.end = omega arith in
+    let buf = w.buf.now in
+    record { same = refl; room = refl; end = sym here; bytes = sym (ap (λ n. take w.end buf ++ drop n buf) here ∙ take-append-drop w.end buf) }
+
 pub wrote_more : (a b c : Writer) (s t : List ℕ) → Wrote a s b → Wrote b t c → Wrote a (s ++ t) c
 wrote_more a b c s t first second = record {
   same = second.same ∙ first.same;
+  room = second.room ∙ first.room;
   end = simp length-append (omega (arith, first.end, second.end));
   bytes = second.bytes
       ∙ ap (λ buf. put_at buf b.end t) first.bytes
       ∙ put-put a.buf.now s t a.end b.end a.within (sym first.end);
 }
+
+-- The same, of a text that is the two.
+pub wrote_next : (a b c : Writer) (s t u : List ℕ) → Wrote a s b → Wrote b t c → s ++ t ≡ u → Wrote a u c
+wrote_next a b c s t u first second is = subst (λ text. Wrote a text c) is (wrote_more a b c s t first second)

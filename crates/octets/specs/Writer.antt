@@ -17,5 +17,6 @@ HasRoom size w = w.end + size ≤ length w.buf.now
 -- A text was put behind what was written, in the same lent buffer, and all else in it is as it was.
 pub record Wrote (old : Writer) (text : List ℕ) (new : Writer) : Type 0 where
   pub same : new.buf.ghost_name ≡ old.buf.ghost_name
+  pub room : length new.buf.now ≡ length old.buf.now
   pub end : new.end ≡ old.end + length text
   pub bytes : new.buf.now ≡ put_at old.buf.now old.end text

@@ -1,9 +1,7 @@
 -- Decimal numbers, written digit by digit.
-use Rattle.std.proofs.Common.{◌≡◌, ℕ, ◌+◌, ◌/◌, ◌%◌, ◌^◌, ◌<◌, ◌≤◌, List, [], ◌∷◌, ◌++◌, length, decimal, sym, ap, ◌∙◌, arith, length-append}
+use Rattle.std.proofs.Common.{◌≡◌, ℕ, ◌+◌, ◌/◌, ◌%◌, ◌^◌, ◌<◌, ◌≤◌, [], ◌∷◌, ◌++◌, length, decimal, sym, ap, ◌∙◌, arith, length-append}
 use Rattle.std.proofs.lemmas.Fmt.{decimal_digit, decimal_step}
 use Rattle.std.proofs.lemmas.Bool.Decides.{nat_tests}
-use Rattle.octets.specs.Buffer.{put_at}
-use Rattle.octets.proofs.Buffers.{put-put}
 use Rattle.text.specs.Digits.{digit_text}
 
 last_digit : (n : ℕ) → digit_text (n % 10) ≡ 48 + n % 10
@@ -19,16 +17,3 @@ more_digits n large fits = decimal_step n large fits ∙ ap (λ d. decimal (n / 
 
 pub length_more : (n : ℕ) → 10 ≤ n → n < 2 ^ 64 → length (decimal n) ≡ length (decimal (n / 10)) + 1
 length_more n large fits = ap length (more_digits n large fits) ∙ length-append (decimal (n / 10)) (digit_text (n % 10) ∷ [])
-
--- The front of a number and its last digit, put one behind the other.
-pub number_put : (buf b1 b2 : List ℕ) (n at end : ℕ) → 10 ≤ n → n < 2 ^ 64 → at ≤ length buf
-    → end ≡ at + length (decimal (n / 10))
-    → b1 ≡ put_at buf at (decimal (n / 10))
-    → b2 ≡ put_at b1 end (digit_text (n % 10) ∷ [])
-    → b2 ≡ put_at buf at (decimal n)
-number_put buf b1 b2 n at end large fits within is p1 p2 =
-    let last = digit_text (n % 10) ∷ [] in
-    p2
-    ∙ ap (λ b. put_at b end last) p1
-    ∙ put-put buf (decimal (n / 10)) last at end within (sym is)
-    ∙ ap (put_at buf at) (sym (more_digits n large fits))

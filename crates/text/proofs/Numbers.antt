@@ -7,7 +7,7 @@ use Rattle.std.proofs.lemmas.Bool.Decides.{nat_tests}
 use Rattle.text.specs.Digits.{digit_of, below_base, digit_in, and_then, digits_after}
 
 -- A digit is below its base.
-pub digit_below : (base c d : ℕ) → Some d ≡ digit_in base c → d < base
+digit_below : (base c d : ℕ) → Some d ≡ digit_in base c → d < base
 unfolding digit_in
 digit_below base c d e = from_base (digit_of c) e
   where
@@ -16,8 +16,10 @@ digit_below base c d e = from_base (digit_of c) e
     from_base None e = absurd (let z : ◌≡◌ {A = ℕ} 0 1 = cc in omega arith)
 
 -- One digit more of at most sixteen.
-pub digit_fits : (base n i d : ℕ) → base ≤ 16 → n < 16 ^ i → i < 16 → d < base → (n * base + d < 16 ^ (i + 1)) × (n * base + d < 2 ^ 64)
-digit_fits base n i d small below few digit =
+pub digit_fits : (base n i d c : ℕ) → base ≤ 16 → n < 16 ^ i → i < 16 → Some d ≡ digit_in base c
+    → (n * base + d < 16 ^ (i + 1)) × (n * base + d < 2 ^ 64)
+digit_fits base n i d c small below few read =
+    let digit = digit_below base c d read in
     let h : suc i ≤ 16 = few in
     let most : 16 ^ suc i ≤ 16 ^ 16 = pow-le-pow_right (omega arith) h in
     let more : 16 ^ suc i ≡ 16 * 16 ^ i = pow-succ' 16 i in
@@ -30,9 +32,6 @@ module _ (base n i : ℕ) (text : List ℕ) (more : i < length text) (inv : digi
 
   step : and_then (digit_in base (get_or text i 0)) then ≡ digits_after base 0 text
   step = sym (at_drop_more (digits_after base n) text i 0 more) ∙ inv
-
-  pub digit_none : None ≡ digit_in base (get_or text i 0) → None ≡ digits_after base 0 text
-  digit_none e = ap (λ r. and_then r then) e ∙ step
 
   pub digit_some : (d : ℕ) → Some d ≡ digit_in base (get_or text i 0) → digits_after base (n * base + d) (drop (i + 1) text) ≡ digits_after base 0 text
   digit_some d e = ap (λ r. and_then r then) e ∙ step

@@ -1,7 +1,7 @@
 -- Hexadecimal text, in capital digits.
-use Rattle.std.specs.Prelude.{ℕ, ◌+◌, ◌*◌, ◌/◌, ◌%◌, Bool, true, cond, ◌&&◌, List, [], ◌∷◌, length, is_some, Some, None, Option, ◌==◌, nat_le, nat_lt}
+use Rattle.std.specs.Prelude.{ℕ, ◌+◌, ◌*◌, ◌/◌, ◌%◌, Bool, cond, ◌&&◌, List, [], ◌∷◌, length, is_some, Some, None, Option, ◌==◌, nat_le, nat_lt}
 use Rattle.std.specs.Option.{unwrap_or}
-use Rattle.std.specs.List.{flat_map}
+use Rattle.std.specs.List.{flat_map, list_all}
 use Rattle.octets.specs.Buffer.{begun}
 use Rattle.text.specs.Digits.{digit_of, digit_text, digits_after}
 
@@ -17,8 +17,7 @@ abbrev pub hex_text : List ℕ → List ℕ
 hex_text bytes = flat_map byte_text bytes
 
 abbrev pub all_hex : List ℕ → Bool
-all_hex [] = true
-all_hex (c ∷ text) = is_some (digit_of c) && all_hex text
+all_hex text = list_all (λ c. is_some (digit_of c)) text
 
 -- The byte that two digits write.
 unfoldable pub byte_of : ℕ → ℕ → ℕ

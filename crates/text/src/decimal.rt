@@ -1,17 +1,17 @@
 // Decimal numbers. Those that are read have one to seven digits, with no leading zero but 0 alone.
-ghost use Rattle.std.specs.Prelude.{◌≡◌, ◌+◌, ◌^◌, ◌<◌, ◌≤◌, true, length, IfSome, Some, decimal as decimal-text};
-ghost use Rattle.octets.specs.Buffer.{put_at};
+ghost use Rattle.std.specs.Prelude.{◌≡◌, ◌^◌, ◌<◌, ◌≤◌, true, length, IfSome, Some, decimal as decimal-text};
+ghost use Rattle.octets.specs.Writer.{HasRoom, Wrote};
 ghost use Rattle.text.specs.Decimal.{fits_decimal, decimal_at};
 
 use crate::{digit_char, read_digits};
-use octets::buffer::put;
+use octets::writer::Writer;
 
 fn has_shape(text: &[u8]) -> bool
     ensures value { result ≡ fits_decimal text.now }
     ensures bound { result ≡ true → length text.now ≤ 7 }
 {
     let size = text.len();
-    size >= 1 && size <= 7 && (size == 1 || text[0] != b'0')
+    (1..=7).contains(&size) && (size == 1 || text[0] != b'0')
 }
 
 // The number that a text writes; none if it is no such text.
@@ -22,23 +22,17 @@ pub fn read_decimal(text: &[u8]) -> Option<u32>
     if !has_shape(text) {
         return None;
     }
-    match read_digits(10, text) {
-        Some(number) => Some(number as u32),
-        None => None,
-    }
+    Some(read_digits(10, text)? as u32)
 }
 
-// Writes a number into a buffer from a place on, and answers the place behind it.
-pub fn put_decimal(buf: &mut [u8], at: usize, number: u64) -> usize
-    requires { at + length (decimal-text number) ≤ length buf.old }
-    ensures end { result ≡ at + length (decimal-text number) }
-    ensures after { buf.new ≡ put_at buf.old at (decimal-text number) }
+// Writes a number.
+pub fn put_decimal(out: &mut Writer<'_>, number: u64)
+    requires { HasRoom (length (decimal-text number)) out.old }
+    ensures text { Wrote out.old (decimal-text number) out.new }
     ensures reads_back { number < 10 ^ 7 → decimal_at (decimal-text number) ≡ Some number }
 {
-    let last = [digit_char((number % 10) as u8)];
-    if number < 10 {
-        return put(buf, at, &last);
+    if number >= 10 {
+        put_decimal(out, number / 10);
     }
-    let end = put_decimal(buf, at, number / 10);
-    put(buf, end, &last)
+    out.put(&[digit_char((number % 10) as u8)]);
 }

@@ -1,10 +1,10 @@
 // Hexadecimal numbers and bytes, in capital digits.
-ghost use Rattle.std.specs.Prelude.{◌≡◌, ◌+◌, ◌*◌, ◌/◌, ◌^◌, ◌<◌, ◌≤◌, length, IfSome, Some};
-ghost use Rattle.octets.specs.Buffer.{put_at, begun};
-ghost use Rattle.text.specs.Hexadecimal.{hex_at, byte_text, hex_text, all_hex, hex_pairs, byte_of, bytes_of, hex_bytes, bytes_read, bytes_left};
+ghost use Rattle.std.specs.Prelude.{◌≡◌, ◌*◌, ◌/◌, ◌^◌, ◌<◌, ◌≤◌, length, IfSome, Some};
+ghost use Rattle.octets.specs.Writer.{HasRoom, Wrote};
+ghost use Rattle.text.specs.Hexadecimal.{hex_at, hex_text, all_hex, hex_pairs, byte_of, bytes_of, hex_bytes, bytes_read, bytes_left};
 
 use crate::{digit, digit_char, read_digits};
-use octets::buffer::put;
+use octets::writer::Writer;
 
 // The number that one to sixteen digits write; none if it is no such text.
 pub fn read_hex(text: &[u8]) -> Option<u64>
@@ -17,38 +17,25 @@ pub fn read_hex(text: &[u8]) -> Option<u64>
     read_digits(16, text)
 }
 
-fn byte_digits(b: u8) -> [u8; 2]
-    ensures { result ≡ byte_text b }
-{
-    [digit_char(b / 16), digit_char(b % 16)]
-}
-
-// Writes two digits for each byte into a buffer from a place on, and answers the place behind them.
-pub fn put_hex(buf: &mut [u8], at: usize, bytes: &[u8]) -> usize
-    requires { at + 2 * length bytes.now ≤ length buf.old }
-    ensures end { result ≡ at + 2 * length bytes.now }
-    ensures after { buf.new ≡ put_at buf.old at (hex_text bytes.now) }
+// Writes two digits for each byte.
+pub fn put_hex(out: &mut Writer<'_>, bytes: &[u8])
+    requires { HasRoom (2 * length bytes.now) out.old }
+    ensures text { Wrote out.old (hex_text bytes.now) out.new }
     ensures reads_back { hex_bytes (hex_text bytes.now) ≡ Some bytes.now }
 {
-    let mut end = at;
     for b in bytes {
-        end = put(buf, end, &byte_digits(*b));
+        out.put(&[digit_char(*b / 16), digit_char(*b % 16)]);
     }
-    end
 }
 
 fn is_hex(text: &[u8]) -> bool
     ensures { result ≡ all_hex text.now }
 {
-    for c in text {
-        if digit(*c).is_none() {
-            return false;
-        }
-    }
-    true
+    text.iter().all(|c| digit(*c).is_some())
 }
 
 // Whether text is pairs of digits, and how many bytes they are.
+#[tactic(auto, using(crate::proofs::HexText::length_bytes), unfolding(crate::specs::Hexadecimal::hex_pairs))]
 fn is_pairs(text: &[u8]) -> bool
     ensures value { result ≡ hex_pairs text.now }
     ensures size { length (bytes_of text.now) ≡ length text.now / 2 }
@@ -57,19 +44,21 @@ fn is_pairs(text: &[u8]) -> bool
 }
 
 // The byte that two digits write.
+#[tactic(auto, unfolding(crate::specs::Hexadecimal::byte_of))]
 fn byte(a: u8, b: u8) -> u8
     ensures { result ≡ byte_of a b }
 {
     digit(a).unwrap_or(0) * 16 + digit(b).unwrap_or(0)
 }
 
-// Writes the bytes of all pairs of digits to the beginning of a buffer.
-fn write_pairs(text: &[u8], buf: &mut [u8])
-    requires { length text.now / 2 ≤ length buf.old }
-    ensures { buf.new ≡ begun buf.old (bytes_of text.now) }
+// Writes the bytes of all pairs of digits.
+fn put_pairs(out: &mut Writer<'_>, text: &[u8])
+    requires { HasRoom (length text.now / 2) out.old }
+    ensures { Wrote out.old (bytes_of text.now) out.new }
 {
-    for i in 0..text.len() / 2 {
-        put(buf, i, &[byte(text[2 * i], text[2 * i + 1])]);
+    let (pairs, _) = text.as_chunks::<2>();
+    for [a, b] in pairs {
+        out.put(&[byte(*a, *b)]);
     }
 }
 
@@ -79,13 +68,10 @@ pub fn read_hex_bytes(text: &[u8], buf: &mut [u8]) -> Option<usize>
     ensures answer { result ≡ bytes_read (hex_bytes text.now) buf.old }
     ensures after { buf.new ≡ bytes_left (hex_bytes text.now) buf.old }
 {
-    if !is_pairs(text) {
+    if !is_pairs(text) || text.len() / 2 > buf.len() {
         return None;
     }
-    let size = text.len() / 2;
-    if size > buf.len() {
-        return None;
-    }
-    write_pairs(text, buf);
-    Some(size)
+    let mut out = Writer::new(buf);
+    put_pairs(&mut out, text);
+    Some(out.len())
 }

@@ -32,13 +32,11 @@ fn digit_char(value: u8) -> u8
 }
 
 // The value of a digit of a base.
+#[tactic(auto, unfolding(crate::specs::Digits::digit_in))]
 fn digit_in(base: u8, c: u8) -> Option<u8>
     ensures { result ≡ digit_in base c }
 {
-    let Some(value) = digit(c) else {
-        return None;
-    };
-    if value < base { Some(value) } else { None }
+    digit(c).filter(|value| *value < base)
 }
 
 // The number that digits of a base write; none if one of them is no such digit.
@@ -49,10 +47,8 @@ fn read_digits(base: u8, text: &[u8]) -> Option<u64>
 {
     let mut number = 0u64;
     for c in text {
-        match digit_in(base, *c) {
-            Some(value) => number = number * base as u64 + value as u64,
-            None => return None,
-        }
+        let digit = digit_in(base, *c)?;
+        number = number * u64::from(base) + u64::from(digit);
     }
     Some(number)
 }

@@ -1,42 +1,34 @@
-use Rattle.std.proofs.Common.{[], ◌∷◌, length, sym, ap, ◌∙◌, arith, rules}
-use Rattle.octets.specs.Buffer.{put_at}
+use Rattle.std.proofs.Common.{◌/◌, [], ◌∷◌, ◌++◌, length, decimal, sym, subst, ap, ◌∙◌, arith, rules}
+use Rattle.octets.specs.Writer.{HasRoom, Wrote}
+use Rattle.octets.proofs.Writing.{wrote_nothing, wrote_next}
 use Rattle.text.proofs.DecimalText.{number_of_text}
-use Rattle.text.proofs.Decimals.{one_digit, length_more, number_put}
+use Rattle.text.proofs.Decimals.{one_digit, more_digits, length_more}
+use Rattle.text.proofs.decimal.+put_decimal.Goals.{then-number-ge10, else-number-ge10}
 use Rattle.text.proofs.decimal.+put_decimal.Goals as goal
 
+pub put_decimal-requires : goal.put_decimal-requires
+put_decimal-requires t c = (omega arith, omega (arith, length_more c.args.number c.if-number-ge10.true (search rules)))
+
 pub put-requires : goal.put-requires
-put-requires t c = omega (arith, ap length (one_digit c.args.number c.if-number-lt10.true))
+put-requires t c =
+    elim c.if-number-ge10.branch [
+      | then-number-ge10 w ↦
+          subst (HasRoom 1) (sym w.out-is) (omega (arith, length_more c.args.number w.if-number-ge10.true (search rules)))
+      | else-number-ge10 w ↦ subst (HasRoom 1) (sym w.out-is) (omega (arith, ap length (one_digit c.args.number w.if-number-ge10.false)))
+    ]
 
-pub returns-then-number-lt10 : goal.returns-then-number-lt10
-returns-then-number-lt10 t c =
+pub returns-clause-text : goal.returns-clause-text
+returns-clause-text t c =
     let n = c.args.number in
-    let text = one_digit n c.if-number-lt10.true in
-    let last = ap (λ d. d ∷ []) c.digit_char.ensures ∙ sym text in
-    record {
-      end = omega (arith, ap length text);
-      after = c.put.ensures.after ∙ ap (put_at c.args.buf.now c.args.at) last;
-      reads_back = number_of_text n;
-    }
+    elim c.if-number-ge10.branch [
+      | then-number-ge10 w ↦
+          wrote_next _ _ _ (decimal (n / 10)) _ _ (subst (Wrote c.args.out.now (decimal (n / 10))) (sym w.out-is) w.put_decimal.ensures.text)
+          c.put.ensures
+          (ap (λ d. decimal (n / 10) ++ (d ∷ [])) c.digit_char.ensures ∙ sym (more_digits n w.if-number-ge10.true (search rules)))
+      | else-number-ge10 w ↦
+          wrote_next _ _ _ [] _ _ (subst (Wrote c.args.out.now []) (sym w.out-is) (wrote_nothing c.args.out.now)) c.put.ensures
+          (ap (λ d. d ∷ []) c.digit_char.ensures ∙ sym (one_digit n w.if-number-ge10.false))
+    ]
 
-pub put_decimal-end-requires : goal.put_decimal-end-requires
-put_decimal-end-requires t c = omega (arith, length_more c.args.number c.if-number-lt10.false (search rules))
-
-pub put-requires-2 : goal.put-requires-2
-put-requires-2 t c = omega (arith, length_more c.args.number c.if-number-lt10.false (search rules))
-
-pub returns : goal.returns
-returns t c =
-    let n = c.args.number in
-    let large = c.if-number-lt10.false in
-    let more = length_more n large (search rules) in
-    record {
-      end = omega (arith, more);
-      after =
-          number_put c.args.buf.now c.put_decimal-end.new.buf c.put-2.new.buf n c.args.at c.put_decimal-end.result large
-          (search rules)
-          (omega arith)
-          c.put_decimal-end.ensures.end
-          c.put_decimal-end.ensures.after
-          (c.put-2.ensures.after ∙ ap (λ d. put_at c.put_decimal-end.new.buf c.put_decimal-end.result (d ∷ [])) c.digit_char.ensures);
-      reads_back = number_of_text n;
-    }
+pub returns-clause-reads_back : goal.returns-clause-reads_back
+returns-clause-reads_back t c = number_of_text c.args.number
