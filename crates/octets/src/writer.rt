@@ -1,5 +1,5 @@
 // Writing one text behind the other into a lent buffer.
-ghost use Rattle.std.specs.Prelude.{◌≡◌, ◌≤◌, length};
+ghost use Rattle.std.specs.Prelude.{◌≡◌, ◌≤◌, length, take};
 
 // A lent buffer, and the end of what is written in it.
 #[derive(Drop)]
@@ -25,6 +25,13 @@ impl<'a> Writer<'a> {
         let end = self.end + text.len();
         self.buf[self.end..end].copy_from_slice(text);
         self.end = end;
+    }
+
+    // What is written.
+    pub fn written(&self) -> &[u8]
+        ensures { result.now ≡ take self.now.end self.now.buf.now }
+    {
+        &self.buf[..self.end]
     }
 
     // The length of what is written.

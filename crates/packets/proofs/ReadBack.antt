@@ -6,7 +6,7 @@ use Rattle.std.proofs.lemmas.Bool.Decides.{nat_tests}
 use Rattle.octets.specs.Bytes.{two_bytes, six_at, two_at, checksum_of}
 use Rattle.packets.specs.Packet.{packet_of, header_bytes, FieldsFit}
 use Rattle.packets.specs.Opened.{starts, sized, summed, header_at, payload_at, opened}
-use Rattle.packets.specs.declared.packet.Header.{Header}
+use Rattle.packets.specs.declared.header.Header.{Header}
 
 starts_from : (bytes : List ℕ) → 2 ≤ length bytes → get_or bytes 0 0 ≡ 0xCC → get_or bytes 1 0 ≡ 0x01 → starts bytes ≡ true
 unfolding starts

@@ -3,7 +3,7 @@ use Rattle.std.specs.Prelude.{ℕ, ◌+◌, ◌-◌, Bool, cond, not, ◌&&◌, 
 use Rattle.refusals.specs.declared.Refusal.{Refusal}
 use Rattle.refusals.specs.declared.Refusal.TheVariants.{WrongStart, WrongLength, WrongChecksum}
 use Rattle.octets.specs.Bytes.{two_at, six_at, checksum_of}
-use Rattle.packets.specs.declared.packet.Header.{Header}
+use Rattle.packets.specs.declared.header.Header.{Header}
 use Rattle.packets.specs.declared.packet.Packet.{Packet}
 
 -- Bytes 0 and 1 are the start codes.

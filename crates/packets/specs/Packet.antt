@@ -1,7 +1,7 @@
 -- The bytes of an RDM packet.
 use Rattle.std.specs.Prelude.{ℕ, ◌+◌, ◌^◌, ◌<◌, List, [], ◌∷◌, ◌++◌, length}
 use Rattle.octets.specs.Bytes.{two_bytes, six_bytes, checksum_of}
-use Rattle.packets.specs.declared.packet.Header.{Header}
+use Rattle.packets.specs.declared.header.Header.{Header}
 
 -- The 24 bytes before the data, of which there are so many.
 abbrev pub header_bytes : Header → ℕ → List ℕ

@@ -2,5 +2,8 @@
 
 #![tactic(auto)]
 
+pub mod header;
 pub mod packet;
 pub mod parameter;
+pub mod reading;
+pub mod writing;

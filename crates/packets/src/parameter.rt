@@ -2,18 +2,18 @@
 ghost use Rattle.std.specs.Prelude.{◌≡◌};
 ghost use Rattle.packets.specs.Parameter.{class_of, pid_of, parameter_at};
 
-#[derive(Clone, Copy)]
+#[derive(Clone, Copy, PartialEq, Eq)]
 pub enum Parameter {
     // DISC_UNIQUE_BRANCH: who of a range is there?
-    Branch,
+    Branch = 0x0001,
     // DISC_MUTE: answer no more branches.
-    Mute,
+    Mute = 0x0002,
     // DISC_UN_MUTE: answer branches again.
-    UnMute,
+    UnMute = 0x0003,
     // DEVICE_INFO: how many slots are you wide, and where do you begin?
-    DeviceInfo,
+    DeviceInfo = 0x0060,
     // DMX_START_ADDRESS: begin at this slot.
-    StartAddress,
+    StartAddress = 0x00F0,
 }
 
 impl Parameter {
@@ -32,13 +32,7 @@ impl Parameter {
     pub fn pid(self) -> u16
         ensures { result ≡ pid_of self }
     {
-        match self {
-            Parameter::Branch => 0x0001,
-            Parameter::Mute => 0x0002,
-            Parameter::UnMute => 0x0003,
-            Parameter::DeviceInfo => 0x0060,
-            Parameter::StartAddress => 0x00F0,
-        }
+        self as u16
     }
 
     // The parameter that a class and an ID ask about, if it is one of these.

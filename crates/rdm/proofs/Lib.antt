@@ -1,2 +1,3 @@
+pub mod QuestionsRead
 pub mod QuestionsReadBack
 pub mod RepliesReadBack

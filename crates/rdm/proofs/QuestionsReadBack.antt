@@ -1,7 +1,10 @@
 -- Each question reads back as itself.
-use Rattle.std.proofs.Common.{◌≡◌, ℕ, ◌^◌, ◌<◌, Some, None, refl, ap, ◌∙◌, ap₂, arith}
+use Rattle.std.proofs.Common.{◌≡◌, ℕ, ◌^◌, ◌<◌, List, take, IfOk, Some, None, Result, refl, ap, ◌∙◌, ap₂, arith}
 use Rattle.std.proofs.lemmas.Bool.Decides.{nat_tests}
 use Rattle.octets.specs.Bytes.{two_at, two_bytes}
+use Rattle.refusals.specs.declared.Refusal.{Refusal}
+use Rattle.octets.specs.Writers.{answered, left_in}
+use Rattle.octets.proofs.Written.{written_result}
 use Rattle.packets.specs.Packet.{FieldsFit}
 use Rattle.packets.specs.Parameter.{class_of, pid_of, parameter_at}
 use Rattle.rdm.specs.Question.{header_of, question_payload, question_frame, question_refusal, heard, ends_bytes, destination_number, destination_of, parameter_of, asked_by}
@@ -45,3 +48,15 @@ pub question_reads_back : (q : Question) (tn : ℕ) → tn < 2 ^ 8 → question_
 unfolding question_at
 question_reads_back q tn small fine =
     ap question_in (opened_packet (header_of q tn) (question_payload q) (fields_fit q tn small)) ∙ ap (λ a. Some (record { destination = destination_number (destination_of q); source = 0x7FF000000000; transaction = tn; asked = a })) (asked_back q fine)
+
+-- What is left of a question in a buffer reads back as itself.
+pub question_written : (q : Question) (tn : ℕ) → tn < 2 ^ 8 → (buf after : List ℕ) (r : Result ℕ Refusal)
+    → r ≡ answered (question_refusal q) (question_frame q tn) buf
+    → after ≡ left_in (question_refusal q) (question_frame q tn) buf
+    → IfOk r (λ n. question_at (take n after) ≡ Some (heard q tn))
+question_written q tn small buf after r answer left =
+    written_result (question_refusal q) (question_frame q tn) buf r after
+    (λ bytes. question_at bytes ≡ Some (heard q tn))
+    answer
+    left
+    (question_reads_back q tn small)

@@ -1,6 +1,9 @@
 -- Each reply reads back as itself.
-use Rattle.std.proofs.Common.{◌≡◌, ◌-◌, ◌^◌, ◌<◌, true, length, Some, Ok, refl, ap, ◌∙◌, arith}
+use Rattle.std.proofs.Common.{◌≡◌, ℕ, ◌-◌, ◌^◌, ◌<◌, true, List, length, take, IfOk, Some, None, Ok, Result, refl, ap, ◌∙◌, arith}
 use Rattle.std.proofs.lemmas.Bool.Decides.{nat_tests}
+use Rattle.refusals.specs.declared.Refusal.{Refusal}
+use Rattle.octets.specs.Writers.{answered, left_in}
+use Rattle.octets.proofs.Written.{written_result}
 use Rattle.packets.specs.Packet.{FieldsFit}
 use Rattle.rdm.specs.ReadReply.{matches, response_at, reply_in, reply_at, expected_by, with_response}
 use Rattle.rdm.specs.Reply.{reply_parameter, response_of, response_code, reply_header, reply_payload, reply_frame}
@@ -45,3 +48,17 @@ reply_reads_back reply q small to-us from_key =
     let read = opened_packet (reply_header reply q) (reply_payload reply) (fields_fit reply q to-us from_key small) in
     ap (reply_in (expected_by reply q)) read
     ∙ rw (matching reply q to-us from_key small) (ap (λ r. with_response r (reply_payload reply)) (response_back reply))
+
+-- What is left of a reply in a buffer reads back as itself.
+pub reply_written : (reply : Reply) (q : Received) → q.transaction < 2 ^ 8 → (buf after : List ℕ) (r : Result ℕ Refusal)
+    → r ≡ answered None (reply_frame reply q) buf
+    → after ≡ left_in None (reply_frame reply q) buf
+    → q.source ≡ 0x7FF000000000
+    → q.destination < 2 ^ 48 - 1
+    → IfOk r (λ n. reply_at (expected_by reply q) (take n after) ≡ Ok (response_of reply, 24, reply_payload reply))
+reply_written reply q small buf after r answer left to-us from_key =
+    written_result None (reply_frame reply q) buf r after
+    (λ bytes. reply_at (expected_by reply q) bytes ≡ Ok (response_of reply, 24, reply_payload reply))
+    answer
+    left
+    (λ _. reply_reads_back reply q small to-us from_key)

@@ -8,10 +8,10 @@ use Rattle.octets.specs.Bytes.{two_at}
 use Rattle.packets.specs.Opened.{opened}
 use Rattle.packets.specs.Parameter.{class_of, pid_of}
 use Rattle.rdm.specs.Reply.{reply_parameter}
-use Rattle.packets.specs.declared.packet.Header.{Header}
+use Rattle.packets.specs.declared.header.Header.{Header}
 use Rattle.packets.specs.declared.parameter.Parameter.{Parameter}
 use Rattle.rdm.specs.declared.read_reply.Expected.{Expected}
-use Rattle.rdm.specs.declared.read_reply.ReadReply.{ReadReply}
+use Rattle.rdm.specs.declared.reply_as_read.ReadReply.{ReadReply}
 use Rattle.rdm.specs.declared.received.Received.{Received}
 use Rattle.rdm.specs.declared.reply.DeviceInfo.{DeviceInfo}
 use Rattle.rdm.specs.declared.reply.Reply.{Reply}

@@ -4,7 +4,7 @@ use Rattle.refusals.specs.declared.Refusal.{Refusal}
 use Rattle.octets.specs.Bytes.{two_at, six_at}
 use Rattle.packets.specs.Opened.{opened}
 use Rattle.packets.specs.Parameter.{parameter_at}
-use Rattle.packets.specs.declared.packet.Header.{Header}
+use Rattle.packets.specs.declared.header.Header.{Header}
 use Rattle.packets.specs.declared.parameter.Parameter.{Parameter}
 use Rattle.packets.specs.declared.parameter.Parameter.TheVariants as parameter
 use Rattle.rdm.specs.declared.received.Asked.{Asked}

@@ -4,7 +4,7 @@ use Rattle.keys.specs.declared.address.Address.{Address}
 use Rattle.octets.specs.Bytes.{two_bytes}
 use Rattle.packets.specs.Packet.{packet_of}
 use Rattle.packets.specs.Parameter.{class_of, pid_of}
-use Rattle.packets.specs.declared.packet.Header.{Header}
+use Rattle.packets.specs.declared.header.Header.{Header}
 use Rattle.packets.specs.declared.parameter.Parameter.{Parameter}
 use Rattle.packets.specs.declared.parameter.Parameter.TheVariants as parameter
 use Rattle.rdm.specs.declared.received.Received.{Received}

@@ -6,3 +6,4 @@ pub mod question;
 pub mod read_reply;
 pub mod received;
 pub mod reply;
+pub mod reply_as_read;

@@ -1,5 +1,6 @@
 // The questions that a controller asks, and the packets that carry them.
 ghost use Rattle.std.specs.Prelude.{◌≡◌, take, IfOk, Some};
+ghost use Rattle.std.specs.Result.{result_err};
 ghost use Rattle.keys.specs.Uid.{uid_number};
 ghost use Rattle.rdm.specs.Question.{destination_number, parameter_of, destination_of, header_of, ends_bytes, question_refusal, question_frame, heard};
 ghost use Rattle.rdm.specs.Received.{question_at};
@@ -9,8 +10,9 @@ use keys::address::{Address, is_in_family};
 use keys::range::Range;
 use keys::uid::Uid;
 use keys::uid::number::BROADCAST;
-use packets::packet::{Header, write_packet};
+use packets::header::Header;
 use packets::parameter::Parameter;
+use packets::writing::write_packet;
 use refusals::Refusal;
 
 // The unique identifier of the box.
@@ -19,7 +21,8 @@ pub const CONTROLLER: u64 = 0x7FF0_0000_0000;
 // Its port.
 const PORT: u8 = 0x01;
 
-#[derive(Clone, Copy)]
+// An enum of its own and no Option: to all is a destination too, and not the lack of one.
+#[derive(Clone, Copy, PartialEq, Eq)]
 pub enum Destination {
     All,
     One(Uid),
@@ -36,7 +39,7 @@ impl Destination {
     }
 }
 
-#[derive(Clone, Copy)]
+#[derive(Clone, Copy, PartialEq, Eq)]
 pub enum Question {
     // To all: who from lo to hi is there and not muted?
     Branch(Range<Uid>),
@@ -86,27 +89,29 @@ impl Question {
     }
 
     // What is wrong with the question itself, whatever buffer it is to go into.
-    fn refusal(self) -> Option<Refusal>
-        ensures { result ≡ question_refusal self }
+    fn check(self) -> Result<(), Refusal>
+        ensures { result_err result ≡ question_refusal self }
     {
         match self {
-            Question::Branch(range) if range.hi.number() < range.lo.number() => Some(
-                Refusal::LowerAboveUpper,
-            ),
-            Question::StartAddress(_, address) if !is_in_family::<Uid>(address) => Some(
-                Refusal::AddressOutside,
-            ),
-            _ => None,
+            Question::Branch(range) if range.hi.number() < range.lo.number() => {
+                Err(Refusal::LowerAboveUpper)
+            }
+            Question::StartAddress(_, address) if !is_in_family::<Uid>(address) => {
+                Err(Refusal::AddressOutside)
+            }
+            _ => Ok(()),
         }
     }
 
-    fn write_whole(self, transaction: u8, buf: &mut [u8]) -> Result<usize, Refusal>
+    // Writes the packet and answers its length. Refuses a branch whose lower end is above its upper end (2), an
+    // address outside the family (3) and a buffer that is too short (4), in this order, and then writes nothing.
+    // What is written reads back as itself.
+    pub fn write(self, transaction: u8, buf: &mut [u8]) -> Result<usize, Refusal>
         ensures answer { result ≡ answered (question_refusal self) (question_frame self transaction) buf.old }
         ensures after { buf.new ≡ left_in (question_refusal self) (question_frame self transaction) buf.old }
+        ensures reads_back { IfOk result (λ n. question_at (take n buf.new) ≡ Some (heard self transaction)) }
     {
-        if let Some(refusal) = self.refusal() {
-            return Err(refusal);
-        }
+        self.check()?;
         let header = self.header(transaction);
         match self {
             Question::Branch(range) => write_packet(header, &ends_array(range), buf),
@@ -121,17 +126,6 @@ impl Question {
                 buf,
             ),
         }
-    }
-
-    // Writes the packet and answers its length. Refuses a branch whose lower end is above its upper end (2), an
-    // address outside the family (3) and a buffer that is too short (4), in this order, and then writes nothing.
-    // What is written reads back as itself.
-    pub fn write(self, transaction: u8, buf: &mut [u8]) -> Result<usize, Refusal>
-        ensures answer { result ≡ answered (question_refusal self) (question_frame self transaction) buf.old }
-        ensures after { buf.new ≡ left_in (question_refusal self) (question_frame self transaction) buf.old }
-        ensures reads_back { IfOk result (λ n. question_at (take n buf.new) ≡ Some (heard self transaction)) }
-    {
-        self.write_whole(transaction, buf)
     }
 }
 

@@ -3,17 +3,20 @@ ghost use Rattle.std.specs.Prelude.{◌≡◌, ◌≤◌, length, IfOk, Ok};
 ghost use Rattle.rdm.specs.ReadReply.{expects, response_at, matches, reply_in, reply_at, reply_held, info_at};
 
 use crate::question::CONTROLLER;
-use crate::reply::{DeviceInfo, Response};
+use crate::reply::{DeviceInfo, NO_ADDRESS, Response};
+use crate::reply_as_read::ReadReply;
 use keys::address::Address;
 use keys::uid::Uid;
 use octets::numbers::two_at;
-use packets::packet::{Header, Packet, read_packet};
+use packets::header::Header;
+use packets::packet::Packet;
 use packets::parameter::Parameter;
+use packets::reading::read_packet;
 use refusals::Refusal;
 
 // The question's class, parameter ID and transaction number, and the number of the key that was asked. They may come
 // from outside, so they can be codes that no question has, and a number that is no key.
-#[derive(Clone, Copy)]
+#[derive(Clone, Copy, PartialEq, Eq)]
 pub struct Expected {
     pub class: u8,
     pub pid: u16,
@@ -45,14 +48,6 @@ impl Expected {
     }
 }
 
-// A reply as it was read. Its data is a part of the bytes that it was read from, and begins at this place of them.
-#[derive(Clone, Copy)]
-pub struct ReadReply<'a> {
-    pub response: Response,
-    pub place: usize,
-    pub payload: &'a [u8],
-}
-
 // The response of a type, if it has the data that such a response has.
 fn read_response(kind: u8, size: usize) -> Option<Response>
     ensures { result ≡ response_at kind size }
@@ -66,27 +61,23 @@ fn read_response(kind: u8, size: usize) -> Option<Response>
 
 // The reply in a packet, if it is one to the question that is expected to be answered.
 fn match_reply(expected: Expected, packet: Packet<'_>) -> Result<ReadReply<'_>, Refusal>
-    requires { length packet.payload.now ≤ 231 }
-    ensures value { reply_held result ≡ reply_in expected (Ok (packet.entry.header, packet.entry.payload.now)) }
-    ensures bound { IfOk result (λ reply. (reply.place ≡ 24) × (length reply.payload.now ≤ 231)) }
+    ensures { reply_held result ≡ reply_in expected (Ok (packet.entry.header, packet.entry.payload.now)) }
 {
     if !expected.matches_header(packet.header) {
         return Err(Refusal::NoMatch);
     }
-    match read_response(packet.header.kind, packet.payload.len()) {
-        Some(response) => Ok(ReadReply {
-            response,
-            place: 24,
-            payload: packet.payload,
-        }),
-        None => Err(Refusal::NoMatch),
-    }
+    let response = read_response(packet.header.kind, packet.payload.len())
+        .ok_or(Refusal::NoMatch)?;
+    Ok(ReadReply {
+        response,
+        place: 24,
+        payload: packet.payload,
+    })
 }
 
 // Reads a reply to the question that is expected to be answered, or answers the first of the refusals 5, 6, 8 and 9.
 pub fn read_reply(expected: Expected, bytes: &[u8]) -> Result<ReadReply<'_>, Refusal>
-    ensures value { reply_held result ≡ reply_at expected bytes.now }
-    ensures bound { IfOk result (λ reply. (reply.place ≡ 24) × (length reply.payload.now ≤ 231)) }
+    ensures { reply_held result ≡ reply_at expected bytes.now }
 {
     let packet = read_packet(bytes)?;
     match_reply(expected, packet)
@@ -100,13 +91,8 @@ pub fn read_device_info(payload: &[u8]) -> Option<DeviceInfo>
         return None;
     }
     let slot = two_at(payload, 14);
-    let address = if slot == 0xFFFF {
-        None
-    } else {
-        Some(Address { slot })
-    };
     Some(DeviceInfo {
         width: two_at(payload, 10),
-        address,
+        address: (slot != NO_ADDRESS).then_some(Address { slot }),
     })
 }

@@ -4,11 +4,11 @@ ghost use Rattle.rdm.specs.Received.{asked_of, question_at};
 
 use keys::address::Address;
 use octets::numbers::{six_at, two_at};
-use packets::packet::read_packet;
 use packets::parameter::Parameter;
+use packets::reading::read_packet;
 
 // What is asked. The ends of a branch are 48-bit numbers of any value, and an address is any two bytes.
-#[derive(Clone, Copy)]
+#[derive(Clone, Copy, PartialEq, Eq)]
 pub enum Asked {
     Branch { lo: u64, hi: u64 },
     Mute,
@@ -19,7 +19,7 @@ pub enum Asked {
     Other,
 }
 
-#[derive(Clone, Copy)]
+#[derive(Clone, Copy, PartialEq, Eq)]
 pub struct Received {
     // 48-bit numbers, which need be no keys.
     pub destination: u64,
@@ -50,17 +50,13 @@ fn read_asked(parameter: Option<Parameter>, payload: &[u8]) -> Asked
 pub fn read_question(bytes: &[u8]) -> Option<Received>
     ensures { result ≡ question_at bytes.now }
 {
-    match read_packet(bytes) {
-        Ok(packet) => {
-            let header = packet.header;
-            let parameter = Parameter::from_codes(header.class, header.pid);
-            Some(Received {
-                destination: header.destination,
-                source: header.source,
-                transaction: header.transaction,
-                asked: read_asked(parameter, packet.payload),
-            })
-        }
-        Err(_) => None,
-    }
+    let packet = read_packet(bytes).ok()?;
+    let header = packet.header;
+    let parameter = Parameter::from_codes(header.class, header.pid);
+    Some(Received {
+        destination: header.destination,
+        source: header.source,
+        transaction: header.transaction,
+        asked: read_asked(parameter, packet.payload),
+    })
 }

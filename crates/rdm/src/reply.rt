@@ -6,30 +6,31 @@ ghost use Rattle.octets.specs.Writers.{answered, left_in};
 
 use crate::received::Received;
 use keys::address::Address;
-use packets::packet::{Header, write_packet};
+use packets::header::Header;
 use packets::parameter::Parameter;
+use packets::writing::write_packet;
 use refusals::Refusal;
 
 // Byte 16 of a reply.
-#[derive(Clone, Copy)]
+#[derive(Clone, Copy, PartialEq, Eq)]
 pub enum Response {
     // ACK: yes.
-    Ack,
+    Ack = 0x00,
     // NACK_REASON: no, and why.
-    Nack,
+    Nack = 0x02,
 }
 
 // Why a fixture says no.
-#[derive(Clone, Copy)]
+#[derive(Clone, Copy, PartialEq, Eq)]
 pub enum Reason {
     // NR_UNKNOWN_PID: a fixture of width 0 has no start address.
-    UnknownPid,
+    UnknownPid = 0x0000,
     // NR_DATA_OUT_OF_RANGE: no such address.
-    DataOutOfRange,
+    DataOutOfRange = 0x0006,
 }
 
 // What a fixture tells of itself.
-#[derive(Clone, Copy)]
+#[derive(Clone, Copy, PartialEq, Eq)]
 pub struct DeviceInfo {
     // How many slots it takes.
     pub width: u16,
@@ -37,7 +38,7 @@ pub struct DeviceInfo {
     pub address: Option<Address>,
 }
 
-#[derive(Clone, Copy)]
+#[derive(Clone, Copy, PartialEq, Eq)]
 pub enum Reply {
     Muted,
     UnMuted,
@@ -50,10 +51,7 @@ impl Response {
     pub fn code(self) -> u8
         ensures { result ≡ response_code self }
     {
-        match self {
-            Response::Ack => 0x00,
-            Response::Nack => 0x02,
-        }
+        self as u8
     }
 }
 
@@ -61,15 +59,12 @@ impl Reason {
     fn code(self) -> u16
         ensures { result ≡ reason_code self }
     {
-        match self {
-            Reason::UnknownPid => 0x0000,
-            Reason::DataOutOfRange => 0x0006,
-        }
+        self as u16
     }
 }
 
 // FFFF stands for no start address.
-const NO_ADDRESS: u16 = 0xFFFF;
+pub(crate) const NO_ADDRESS: u16 = 0xFFFF;
 
 impl DeviceInfo {
     // What is told reads back as itself, unless it is the slot that stands for none.
@@ -77,10 +72,7 @@ impl DeviceInfo {
         ensures value { result ≡ info_bytes self }
         ensures reads_back { slot_told self ≡ true → info_at result ≡ Some self }
     {
-        let slot = match self.address {
-            Some(address) => address.slot,
-            None => NO_ADDRESS,
-        };
+        let slot = self.address.map_or(NO_ADDRESS, |address| address.slot);
         let [w0, w1] = self.width.to_be_bytes();
         let [a0, a1] = slot.to_be_bytes();
         // Protocol version; model, category and software, all unknown; footprint; the first personality of one; start
@@ -126,9 +118,12 @@ impl Reply {
         }
     }
 
-    fn write_whole(self, question: Received, buf: &mut [u8]) -> Result<usize, Refusal>
+    // Writes the packet that answers a question and answers its length. Refuses a buffer that is too short (4), and then
+    // writes nothing. A reply to the controller reads back as itself.
+    pub fn write(self, question: Received, buf: &mut [u8]) -> Result<usize, Refusal>
         ensures answer { result ≡ answered None (reply_frame self question) buf.old }
         ensures after { buf.new ≡ left_in None (reply_frame self question) buf.old }
+        ensures reads_back { question.source ≡ 0x7FF000000000 → question.destination < 2 ^ 48 - 1 → IfOk result (λ n. reply_at (expected_by self question) (take n buf.new) ≡ Ok (response_of self, 24, reply_payload self)) }
     {
         let header = self.header(question);
         match self {
@@ -141,15 +136,5 @@ impl Reply {
                 buf,
             ),
         }
-    }
-
-    // Writes the packet that answers a question and answers its length. Refuses a buffer that is too short (4), and then
-    // writes nothing. A reply to the controller reads back as itself.
-    pub fn write(self, question: Received, buf: &mut [u8]) -> Result<usize, Refusal>
-        ensures answer { result ≡ answered None (reply_frame self question) buf.old }
-        ensures after { buf.new ≡ left_in None (reply_frame self question) buf.old }
-        ensures reads_back { question.source ≡ 0x7FF000000000 → question.destination < 2 ^ 48 - 1 → IfOk result (λ n. reply_at (expected_by self question) (take n buf.new) ≡ Ok (response_of self, 24, reply_payload self)) }
-    {
-        self.write_whole(question, buf)
     }
 }

@@ -7,12 +7,9 @@ pub returns-in_err-packet : goal.returns-in_err-packet
 unfolding reply_at
 returns-in_err-packet c =
     let p = err_from_is_err_and c.from_residual.result c.from_residual.ensures.1 in
-    let read = ap (reply_in c.args.expected) c.in_err-packet.ensures.value in
-    record { value = rw (p.1, p.2) read; bound = rw p.1 tt }
+    let read = ap (reply_in c.args.expected) c.in_err-packet.ensures in
+    rw (p.1, p.2) read
 
 pub returns : goal.returns
 unfolding reply_at
-returns c = record {
-  value = c.match_reply.ensures.value ∙ ap (reply_in c.args.expected) c.in_ok-packet.ensures.value;
-  bound = c.match_reply.ensures.bound;
-}
+returns c = c.match_reply.ensures ∙ ap (reply_in c.args.expected) c.in_ok-packet.ensures

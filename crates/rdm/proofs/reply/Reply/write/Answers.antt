@@ -1,23 +1,19 @@
-use Rattle.std.proofs.Common.{◌≡◌, None, Ok, rules}
-use Rattle.rdm.specs.ReadReply.{reply_at, expected_by}
-use Rattle.rdm.specs.Reply.{reply_frame, response_of, reply_payload}
-use Rattle.rdm.proofs.RepliesReadBack.{reply_reads_back}
-use Rattle.octets.proofs.Written.{written_result}
+use Rattle.std.proofs.Common.{rules}
+use Rattle.rdm.proofs.RepliesReadBack.{reply_written}
 use Rattle.rdm.proofs.reply.Reply.write.Goals as goal
 
-pub returns : goal.returns
-returns c =
-    let reply = c.args.self in
-    let q = c.args.question in
-    let done = c.write_whole.ensures in
-    record {
-      answer = done.answer;
-      after = done.after;
-      reads_back =
-          λ to-us from_key.
-          written_result None (reply_frame reply q) _ _ _
-          (λ bytes. reply_at (expected_by reply q) bytes ≡ Ok (response_of reply, 24, reply_payload reply))
-          done.answer
-          done.after
-          (λ _. reply_reads_back reply q (search rules) to-us from_key);
-    }
+pub returns-in-Muted-clause-reads_back : goal.returns-in-Muted-clause-reads_back
+returns-in-Muted-clause-reads_back c =
+    reply_written c.args.self c.args.question (search rules) c.args.buf.now _ _ (search rules) (search rules)
+
+pub returns-in-Info-clause-reads_back : goal.returns-in-Info-clause-reads_back
+returns-in-Info-clause-reads_back c =
+    reply_written c.args.self c.args.question (search rules) c.args.buf.now _ _ (search rules) (search rules)
+
+pub returns-in-AddressTaken-clause-reads_back : goal.returns-in-AddressTaken-clause-reads_back
+returns-in-AddressTaken-clause-reads_back c =
+    reply_written c.args.self c.args.question (search rules) c.args.buf.now _ _ (search rules) (search rules)
+
+pub returns-in-AddressRefused-clause-reads_back : goal.returns-in-AddressRefused-clause-reads_back
+returns-in-AddressRefused-clause-reads_back c =
+    reply_written c.args.self c.args.question (search rules) c.args.buf.now _ _ (search rules) (search rules)

@@ -1,7 +1,7 @@
 use Rattle.std.proofs.Common.{arith, rules}
 use Rattle.std.proofs.lemmas.Bool.Decides.{nat_tests}
-use Rattle.packets.proofs.Packets.{length-packet, packet_put}
-use Rattle.packets.proofs.packet.write_packet.Goals as goal
+use Rattle.packets.proofs.Packets.{length-packet, wrote_packet}
+use Rattle.packets.proofs.writing.write_packet.Goals as goal
 
 pub returns-then-buf-size : goal.returns-then-buf-size
 returns-then-buf-size c = let size = length-packet c.args.header c.args.payload.now in grind (arith, nat_tests)
@@ -9,12 +9,13 @@ returns-then-buf-size c = let size = length-packet c.args.header c.args.payload.
 pub returns : goal.returns
 returns c =
     let size = length-packet c.args.header c.args.payload.now in
-    let filled =
-    packet_put c.args.header c.args.payload.now c.args.buf.now c.put.new.buf c.put-end.new.buf
-    c.put-2.new.buf
-    c.put-end.result
-    c.put-end.ensures.end
+    let packet =
+    wrote_packet _ c.args.header c.args.payload.now c.new-writer.result c.put.new.self c.put-2.new.self
+    c.put-3.new.self
+    c.checksum-sum.result
+    c.new-writer.ensures
     (search rules)
-    c.put-end.ensures.after
+    c.put-2.ensures
+    (search rules)
     (search rules) in
     grind (arith, nat_tests)

@@ -1,11 +1,11 @@
 use Rattle.std.proofs.Common.{rules}
-use Rattle.packets.specs.Opened.{starts}
-use Rattle.packets.proofs.packet.has_start.Goals as goal
+use Rattle.packets.specs.Opened.{sized}
+use Rattle.packets.proofs.reading.has_size.Goals as goal
 
 pub returns-then-bytes : goal.returns-then-bytes
-unfolding starts
+unfolding sized
 returns-then-bytes c = search rules
 
 pub returns-else-bytes : goal.returns-else-bytes
-unfolding starts
+unfolding sized
 returns-else-bytes c = search rules
