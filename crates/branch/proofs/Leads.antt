@@ -1,10 +1,11 @@
 -- What follows the lead bytes of a branch reply.
-use Rattle.std.proofs.Common.{◌≡◌, ℕ, ◌+◌, ◌-◌, ◌<◌, ◌≤◌, cond, eqb, List, [], ◌∷◌, ◌++◌, length, take, drop, Some, None, Option, sym, refl, ap, ◌∙◌, ap₂, arith, Bor, MatchOption}
-use Rattle.std.proofs.lemmas.List.{drop_more, take_rest, at_drop_all}
+use Rattle.std.proofs.Common.{◌≡◌, ℕ, cond, eqb, List, [], ◌∷◌, ◌++◌, Some, None, Option, Ok, Err, Result, sym, refl, ap, ◌∙◌, ap₂, arith, Bor, MatchOption}
 use Rattle.std.proofs.lemmas.Bool.{eq-eqb}
 use Rattle.std.proofs.lemmas.Bool.Decides.{nat_tests}
-use Rattle.std.specs.Option.{option_map}
-use Rattle.branch.specs.BranchReply.{behind, behind_lead, or_else}
+use Rattle.std.specs.Option.{option_map, ok_or}
+use Rattle.refusals.specs.declared.Refusal.{Refusal}
+use Rattle.refusals.specs.declared.Refusal.TheVariants.{WrongStart}
+use Rattle.branch.specs.BranchReply.{behind, body_read, rest_read}
 
 -- A beginning with something behind it.
 pub behind_append : (start rest : List ℕ) → behind start (start ++ rest) ≡ Some rest
@@ -33,15 +34,13 @@ stripped bytes start None no-rest = by_answer (behind start bytes) refl
     by_answer (Some rest) e = absurd (no-rest rest (append_behind start bytes rest e))
     by_answer None e = sym e
 
--- The lead bytes from a place on, in a search for how many are lost: what follows them there.
-module _ (lead bytes : List ℕ) (lost : ℕ) (found : Option (List ℕ)) (read : found ≡ behind (take (length lead - lost) (drop lost lead)) bytes) where
-  pub lead_step : lost < length lead → behind_lead (drop lost lead) bytes ≡ behind_lead lead bytes
-      → behind_lead lead bytes ≡ or_else found (behind_lead (drop (lost + 1) lead) bytes)
-  lead_step more inv =
-      let next = drop_more lead lost 0 more in
-      let here = ap (λ l. behind l bytes) (sym next ∙ sym (take_rest lead lost)) ∙ sym read in
-      sym inv ∙ ap (λ l. behind_lead l bytes) next ∙ ap (λ f. or_else f (behind_lead (drop (lost + 1) lead) bytes)) here
+-- What a reader makes of what follows the lead, or of that nothing does.
+pub some_lead : (found : Option (Bor (List ℕ))) (r : Result (Bor (List ℕ)) Refusal) (body : Bor (List ℕ))
+    → r ≡ ok_or found WrongStart → r ≡ Ok body → body_read body.now ≡ rest_read (option_map (λ x. x.now) found)
+some_lead (Some x) r body made is = cc
+some_lead None r body made is = cc
 
-pub lead_end : (lead bytes : List ℕ) (lost : ℕ) → length lead ≤ lost → behind_lead (drop lost lead) bytes ≡ behind_lead lead bytes
-    → None ≡ behind_lead lead bytes
-lead_end lead bytes lost over inv = sym (at_drop_all (λ l. behind_lead l bytes) lead lost over) ∙ inv
+pub no_lead : (found : Option (Bor (List ℕ))) (r : Result (Bor (List ℕ)) Refusal) (refusal : Refusal)
+    → r ≡ ok_or found WrongStart → r ≡ Err refusal → Err refusal ≡ rest_read (option_map (λ x. x.now) found)
+no_lead (Some x) r refusal made is = cc
+no_lead None r refusal made is = cc

@@ -2,16 +2,16 @@
 
 #![tactic(auto)]
 
-ghost use Rattle.std.specs.Prelude.{◌≡◌, ℕ, ◌≤◌, length, take, drop, IfOk, None, Ok};
+ghost use Rattle.std.specs.Prelude.{◌≡◌, ℕ, ◌*◌, ◌≤◌, length, take, drop, IfOk, None, Ok};
 ghost use Rattle.std.specs.Option.{option_map};
 ghost use Rattle.keys.specs.Uid.{uid_number};
-ghost use Rattle.octets.specs.Bytes.{two_bytes, six_bytes};
 ghost use Rattle.branch.specs.BranchReply.{pairs_of, branch_reply, behind, behind_lead, pair_set, bits_set, carried, sum_carried, body_read, branch_read, key_number};
+ghost use Rattle.octets.specs.Writer.{HasRoom, Wrote};
 ghost use Rattle.octets.specs.Writers.{answered, left_in};
 
 use keys::uid::Uid;
-use octets::buffer::put;
 use octets::checksum::checksum;
+use octets::writer::Writer;
 use refusals::Refusal;
 
 // Seven bytes FE that a repeater may swallow, and AA, behind which the key begins.
@@ -19,46 +19,14 @@ const LEAD: [u8; 8] = *b"\xFE\xFE\xFE\xFE\xFE\xFE\xFE\xAA";
 
 const SIZE: usize = 24;
 
-fn key_pairs(key: Uid) -> [u8; 12]
-    ensures { result ≡ pairs_of (six_bytes (uid_number key)) }
+// Puts each byte b as the pair b OR AA, b OR 55.
+fn put_pairs(out: &mut Writer<'_>, bytes: &[u8])
+    requires { HasRoom (2 * length bytes.now) out.old }
+    ensures { Wrote out.old (pairs_of bytes.now) out.new }
 {
-    let [_, _, a, b, c, d, e, f] = key.number().to_be_bytes();
-    [
-        a | 0xAA,
-        a | 0x55,
-        b | 0xAA,
-        b | 0x55,
-        c | 0xAA,
-        c | 0x55,
-        d | 0xAA,
-        d | 0x55,
-        e | 0xAA,
-        e | 0x55,
-        f | 0xAA,
-        f | 0x55,
-    ]
-}
-
-fn sum_pairs(sum: u16) -> [u8; 4]
-    ensures { result ≡ pairs_of (two_bytes sum) }
-{
-    let [a, b] = sum.to_be_bytes();
-    [a | 0xAA, a | 0x55, b | 0xAA, b | 0x55]
-}
-
-fn write_whole(key: Uid, buf: &mut [u8]) -> Result<usize, Refusal>
-    ensures answer { result ≡ answered None (branch_reply (uid_number key)) buf.old }
-    ensures after { buf.new ≡ left_in None (branch_reply (uid_number key)) buf.old }
-{
-    if buf.len() < SIZE {
-        return Err(Refusal::BufferTooShort);
+    for b in bytes {
+        out.put(&[b | 0xAA, b | 0x55]);
     }
-    let pairs = key_pairs(key);
-    let sum = sum_pairs(checksum(&pairs));
-    put(buf, 0, &LEAD);
-    put(buf, 8, &pairs);
-    put(buf, 20, &sum);
-    Ok(SIZE)
 }
 
 // Writes the reply of a key and answers its length. Refuses a buffer that is too short (4), and then writes nothing.
@@ -68,7 +36,15 @@ pub fn write_branch_reply(key: Uid, buf: &mut [u8]) -> Result<usize, Refusal>
     ensures after { buf.new ≡ left_in None (branch_reply (uid_number key)) buf.old }
     ensures reads_back { IfOk result (λ n. (lost : ℕ) → lost ≤ 7 → branch_read (drop lost (take n buf.new)) ≡ Ok (uid_number key)) }
 {
-    write_whole(key, buf)
+    if buf.len() < SIZE {
+        return Err(Refusal::BufferTooShort);
+    }
+    let mut out = Writer::new(buf);
+    out.put(&LEAD);
+    put_pairs(&mut out, &key.number().to_be_bytes()[2..]);
+    let sum = checksum(&out.written()[LEAD.len()..]);
+    put_pairs(&mut out, &sum.to_be_bytes());
+    Ok(out.len())
 }
 
 // What follows a beginning.
@@ -82,10 +58,12 @@ fn strip_start<'a>(start: &[u8], bytes: &'a [u8]) -> Option<&'a [u8]>
 fn strip_lead<'a>(lead: &[u8], bytes: &'a [u8]) -> Option<&'a [u8]>
     ensures { option_map (λ x. x.now) result ≡ behind_lead lead.now bytes.now }
 {
-    for lost in 0..lead.len() {
-        if let Some(rest) = strip_start(&lead[lost..], bytes) {
+    let mut left = lead;
+    while let Some((_, fewer)) = left.split_first() {
+        if let Some(rest) = strip_start(left, bytes) {
             return Some(rest);
         }
+        left = fewer;
     }
     None
 }
@@ -100,8 +78,9 @@ fn is_pair(p: u8, q: u8) -> bool
 fn has_set_bits(pairs: &[u8]) -> bool
     ensures { result ≡ bits_set pairs.now }
 {
-    for i in 0..pairs.len() / 2 {
-        if !is_pair(pairs[2 * i], pairs[2 * i + 1]) {
+    let (pairs, _) = pairs.as_chunks::<2>();
+    for [p, q] in pairs {
+        if !is_pair(*p, *q) {
             return false;
         }
     }
@@ -113,9 +92,10 @@ fn carried_number(pairs: &[u8]) -> u64
     requires { length pairs.now ≤ 12 }
     ensures { result ≡ carried pairs.now }
 {
+    let (pairs, _) = pairs.as_chunks::<2>();
     let mut number = 0u64;
-    for i in 0..pairs.len() / 2 {
-        number = number * 256 + u64::from(pairs[2 * i] & pairs[2 * i + 1]);
+    for [p, q] in pairs {
+        number = number * 256 + u64::from(p & q);
     }
     number
 }
@@ -141,10 +121,7 @@ fn read_body(body: &[u8]) -> Result<Uid, Refusal>
     if !has_sum(body) {
         return Err(Refusal::WrongChecksum);
     }
-    match Uid::from_number(carried_number(&body[0..12])) {
-        Some(key) => Ok(key),
-        None => Err(Refusal::NotAKey),
-    }
+    Uid::from_number(carried_number(&body[..12])).ok_or(Refusal::NotAKey)
 }
 
 // The key whose reply the bytes are, less at most seven bytes at the front. Refuses in this order: a wrong start (5), a
@@ -153,8 +130,6 @@ pub fn read_branch_reply(bytes: &[u8]) -> Result<Uid, Refusal>
     ensures answer { key_number result ≡ branch_read bytes.now }
     ensures is_the_reply_of_its_key { IfOk result (λ key. (lost : ℕ) × (lost ≤ 7) × (bytes.now ≡ drop lost (branch_reply (uid_number key)))) }
 {
-    match strip_lead(&LEAD, bytes) {
-        Some(body) => read_body(body),
-        None => Err(Refusal::WrongStart),
-    }
+    let body = strip_lead(&LEAD, bytes).ok_or(Refusal::WrongStart)?;
+    read_body(body)
 }

@@ -1,6 +1,5 @@
 -- A question is read where its packet is, and nowhere else.
 use Rattle.std.proofs.Common.{◌≡◌, Some, None, Ok, Err, Option, Result, refl, sym, ap, ◌∙◌}
-use Rattle.std.specs.Option.{option_map}
 use Rattle.std.specs.Result.{result_ok}
 use Rattle.refusals.specs.declared.Refusal.{Refusal}
 use Rattle.packets.specs.Opened.{held}

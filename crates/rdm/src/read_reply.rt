@@ -66,8 +66,7 @@ fn match_reply(expected: Expected, packet: Packet<'_>) -> Result<ReadReply<'_>, 
     if !expected.matches_header(packet.header) {
         return Err(Refusal::NoMatch);
     }
-    let response = read_response(packet.header.kind, packet.payload.len())
-        .ok_or(Refusal::NoMatch)?;
+    let response = read_response(packet.header.kind, packet.payload.len()).ok_or(Refusal::NoMatch)?;
     Ok(ReadReply {
         response,
         place: 24,

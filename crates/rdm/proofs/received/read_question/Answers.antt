@@ -1,5 +1,4 @@
-use Rattle.std.proofs.Common.{None, Some, ap, ◌∙◌, sym}
-use Rattle.packets.specs.Parameter.{parameter_at}
+use Rattle.std.proofs.Common.{None, Some, ap, ◌∙◌}
 use Rattle.rdm.specs.Received.{question_at, question_in, asked_of}
 use Rattle.rdm.proofs.QuestionsRead.{question_read}
 use Rattle.rdm.proofs.received.read_question.Goals as goal
