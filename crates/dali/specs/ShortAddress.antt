@@ -1,5 +1,8 @@
 -- Short addresses, as slots and as bytes.
-use Rattle.std.specs.Prelude.{◌≡◌, ℕ, ◌+◌, ◌*◌, false, Some, None, Option, ◌≢◌}
+use Rattle.std.specs.Prelude.{◌≡◌, ℕ, ◌+◌, ◌*◌, false, Some, None, Option, Result, IfErr, ◌≢◌}
+use Rattle.std.specs.Result.{result_ok}
+use Rattle.refusals.specs.declared.Refusal.{Refusal}
+use Rattle.refusals.specs.declared.Refusal.TheVariants.{AddressOutside}
 use Rattle.keys.specs.Address.{in_family}
 use Rattle.keys.specs.declared.address.Address.{Address}
 use Rattle.dali.specs.Codes.{is_short}
@@ -12,6 +15,14 @@ short_byte a = 2 * a.value + 1
 abbrev pub ShortOf : Address → Option ShortAddress → Type 0
 ShortOf address None = in_family 0 64 address ≡ false
 ShortOf address (Some a) = a.value ≡ address.slot
+
+-- r is the same, or the refusal of an address outside the family.
+abbrev pub ShortTried : Address → Result ShortAddress Refusal → Type 0
+ShortTried address r = ShortOf address (result_ok r) × IfErr r (λ refusal. refusal ≡ AddressOutside)
+
+-- r is the slot of a short address.
+abbrev pub SlotOf : ShortAddress → Address → Type 0
+SlotOf short address = address.slot ≡ short.value
 
 -- r is the short address that a byte stands for.
 abbrev pub ShortAt : ℕ → Option ShortAddress → Type 0

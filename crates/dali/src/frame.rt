@@ -9,7 +9,7 @@ use crate::short_address::ShortAddress;
 use octets::buffer::write_bytes;
 use refusals::Refusal;
 
-#[derive(Clone, Copy)]
+#[derive(Clone, Copy, PartialEq, Eq)]
 pub enum Frame {
     // A100, TERMINATE: all units are disabled.
     Terminate,
@@ -82,10 +82,7 @@ impl Frame {
         if second == 0xFF {
             return Some(Frame::Delete);
         }
-        match ShortAddress::from_byte(second) {
-            Some(address) => Some(Frame::Program(address)),
-            None => None,
-        }
+        ShortAddress::from_byte(second).map(Frame::Program)
     }
 
     // The frame that two bytes are, if it is one with a name.
@@ -108,6 +105,7 @@ impl Frame {
     {
         match Frame::read_named(first, second) {
             Some(frame) => frame,
+            // No `unwrap_or`: that these bytes have no name is known here alone.
             None => Frame::Other(OtherFrame { first, second }),
         }
     }

@@ -14,10 +14,7 @@ const MASK: u8 = 0xFF;
 pub fn address_reply(address: Option<ShortAddress>) -> u8
     ensures { result ≡ stored_byte address }
 {
-    match address {
-        Some(address) => address.byte(),
-        None => MASK,
-    }
+    address.map_or(MASK, ShortAddress::byte)
 }
 
 // What a unit told of its address; none if it is no such reply.
@@ -27,8 +24,5 @@ pub fn read_address_reply(byte: u8) -> Option<Option<ShortAddress>>
     if byte == MASK {
         return Some(None);
     }
-    match ShortAddress::from_byte(byte) {
-        Some(address) => Some(Some(address)),
-        None => None,
-    }
+    ShortAddress::from_byte(byte).map(Some)
 }

@@ -27,9 +27,6 @@ pub fn write_search(key: RandomAddress, buf: &mut [u8]) -> Result<usize, Refusal
     ensures answer { result ≡ answered None (search_bytes (random_number key)) buf.old }
     ensures after { buf.new ≡ left_in None (search_bytes (random_number key)) buf.old }
 {
-    let [high, middle, low] = search_frames(key);
-    let [a, b] = high.bytes();
-    let [c, d] = middle.bytes();
-    let [e, f] = low.bytes();
-    write_bytes(&[a, b, c, d, e, f], buf)
+    let frames = search_frames(key).map(Frame::bytes);
+    write_bytes(frames.as_flattened(), buf)
 }

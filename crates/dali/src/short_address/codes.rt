@@ -1,24 +1,39 @@
 // Short addresses as slots, and as the byte that stands for them in a frame.
 ghost use Rattle.std.specs.Prelude.{◌≡◌};
-ghost use Rattle.dali.specs.ShortAddress.{short_byte, ShortOf, ShortAt};
+ghost use Rattle.dali.specs.ShortAddress.{short_byte, ShortTried, SlotOf, ShortAt};
 
 use crate::short_address::ShortAddress;
 use keys::address::{Address, is_in_family};
 use keys::random_address::RandomAddress;
+use refusals::Refusal;
 
-impl ShortAddress {
-    // The short address of a slot; none outside the family.
-    pub fn from_address(address: Address) -> Option<ShortAddress>
-        ensures { ShortOf address result }
-    {
+// The short address of a slot; 3 outside the family.
+impl TryFrom<Address> for ShortAddress {
+    type Error = Refusal;
+
+    ghost try_from_gives = { ShortTried };
+
+    fn try_from(address: Address) -> Result<ShortAddress, Refusal> {
         if !is_in_family::<RandomAddress>(address) {
-            return None;
+            return Err(Refusal::AddressOutside);
         }
-        Some(ShortAddress {
+        Ok(ShortAddress {
             value: address.slot as u8,
         })
     }
+}
 
+impl From<ShortAddress> for Address {
+    ghost from_gives = { SlotOf };
+
+    fn from(short: ShortAddress) -> Address {
+        Address {
+            slot: u16::from(short.value),
+        }
+    }
+}
+
+impl ShortAddress {
     // The address in bits 1 to 6, and bit 0 set.
     pub fn byte(self) -> u8
         ensures { result ≡ short_byte self }
