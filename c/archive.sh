@@ -2,6 +2,6 @@
 # Builds the static library for C: target/staticlib/libfirmware.a.
 set -e
 cd "$(dirname "$0")/.."
-(cd crates/firmware_c && rt lib)
+(cd crates/firmware && rt lib)
 mkdir -p target/staticlib
-cp crates/firmware_c/out/libfirmware_c.a target/staticlib/libfirmware.a
+cp crates/firmware/out/libfirmware.a target/staticlib/libfirmware.a

@@ -28,10 +28,7 @@ fn code(res: Result<usize, Refusal>) -> i64
     requires { IfOk res (λ n. n < 2 ^ 63) }
     ensures { result ≡ coded res }
 {
-    match res {
-        Ok(n) => n as i64,
-        Err(refusal) => minus(refusal),
-    }
+    res.map_or_else(minus, |n| n as i64)
 }
 
 // The length of the branch question, 38; refusals 1, 2, 4.
@@ -111,10 +108,7 @@ pub extern "C" fn rdm_reply_kind(
         transaction,
         key,
     };
-    match read_reply(expected, bytes) {
-        Ok(reply) => i64::from(reply.response.code()),
-        Err(refusal) => minus(refusal),
-    }
+    read_reply(expected, bytes).map_or_else(minus, |reply| i64::from(reply.response.code()))
 }
 
 // How many bytes of data the reply has, from byte 24 on; refusals 5, 6, 8, 9.
@@ -134,10 +128,7 @@ pub extern "C" fn rdm_reply_size(
         transaction,
         key,
     };
-    match read_reply(expected, bytes) {
-        Ok(reply) => reply.payload.len() as i64,
-        Err(refusal) => minus(refusal),
-    }
+    read_reply(expected, bytes).map_or_else(minus, |reply| reply.payload.len() as i64)
 }
 
 // The length of a branch reply, 24; refusals 1, 4.
@@ -154,10 +145,7 @@ pub extern "C" fn rdm_write_branch_reply(key: u64, buf: &mut [u8]) -> i64
 pub extern "C" fn rdm_read_branch_reply(bytes: &[u8]) -> i64
     ensures { result ≡ coded (branch_read bytes.now) }
 {
-    match read_branch_reply(bytes) {
-        Ok(key) => key.number() as i64,
-        Err(refusal) => minus(refusal),
-    }
+    read_branch_reply(bytes).map_or_else(minus, |key| key.number() as i64)
 }
 
 // The length of A100, 2; refusal 4.
