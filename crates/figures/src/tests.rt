@@ -24,12 +24,9 @@ fn reply_of(key: Uid) -> [u8; 24] {
     bytes
 }
 
-// What was read, by its number; 0 for a refusal.
-fn read(bytes: &[u8]) -> u64 {
-    match read_branch_reply(bytes) {
-        Ok(key) => key.number(),
-        Err(_) => 0,
-    }
+// What was read, by its number.
+fn read(bytes: &[u8]) -> Result<u64, Refusal> {
+    read_branch_reply(bytes).map(Uid::number)
 }
 
 #[test]
@@ -41,28 +38,23 @@ fn branch_reply_of_the_first_key(rt: HostRuntime) {
     assert!(rt; reply_of(FIRST) == expected);
 }
 
-fn joined_by_or(first: [u8; 24], second: [u8; 24]) -> [u8; 24] {
-    let mut joined = [0u8; 24];
-    for i in 0..24 {
-        joined[i] = first[i] | second[i];
-    }
-    joined
-}
-
-fn joined_by_and(first: [u8; 24], second: [u8; 24]) -> [u8; 24] {
-    let mut joined = [0u8; 24];
-    for i in 0..24 {
-        joined[i] = first[i] & second[i];
+// Two replies at once, bit by bit.
+fn joined<F: Fn(u8, u8) -> u8>(first: [u8; 24], second: [u8; 24], gate: F) -> [u8; 24]
+    requires { F.IsAlwaysCallable gate }
+{
+    let mut joined = first;
+    for (byte, other) in joined.iter_mut().zip(&second) {
+        *byte = gate(*byte, *other);
     }
     joined
 }
 
 #[test]
 fn replies_that_overlap_read_as_neither(rt: HostRuntime) {
-    let or = joined_by_or(reply_of(FIRST), reply_of(SECOND));
-    assert_eq!(rt; read(&or), 0x7FF3_0000_0003);
-    let and = joined_by_and(reply_of(FIRST), reply_of(SECOND));
-    assert_eq!(rt; read(&and), 0x7FF3_0000_0000);
+    let or = joined(reply_of(FIRST), reply_of(SECOND), |a, b| a | b);
+    assert_eq!(rt; read(&or), Ok(0x7FF3_0000_0003));
+    let and = joined(reply_of(FIRST), reply_of(SECOND), |a, b| a & b);
+    assert_eq!(rt; read(&and), Ok(0x7FF3_0000_0000));
 }
 
 const LOWEST: Uid = Uid {
@@ -82,18 +74,16 @@ fn first_branch_question_of_all_keys(rt: HostRuntime) {
         lo: LOWEST,
         hi: HIGHEST,
     };
-    assert!(rt; matches!(Question::Branch(all).write(0, &mut buf), Ok(38)));
+    assert_eq!(rt; Question::Branch(all).write(0, &mut buf), Ok(38));
     assert_eq!(rt; buf[36], 0x0E);
     assert_eq!(rt; buf[37], 0x71);
     let none = Range {
         lo: HIGHEST,
         hi: LOWEST,
     };
-    assert!(rt;
-        matches!(
-            Question::Branch(none).write(0, &mut buf),
-            Err(Refusal::LowerAboveUpper),
-        )
+    assert_eq!(rt;
+        Question::Branch(none).write(0, &mut buf),
+        Err(Refusal::LowerAboveUpper)
     );
 }
 
@@ -103,13 +93,9 @@ fn halves_of_all_keys(rt: HostRuntime) -> Result<(), Fail> {
         lo: LOWEST,
         hi: HIGHEST,
     };
-    match split(all) {
-        Some(halves) => {
-            assert_eq!(rt; halves.0.hi.number(), 0x7FFF_FFFF_FFFF);
-            assert_eq!(rt; halves.1.lo.number(), 0x8000_0000_0000);
-        }
-        None => return Err(Fail::new("two halves")),
-    }
+    let (lower, upper) = split(all).ok_or(Fail::new("two halves"))?;
+    assert_eq!(rt; lower.hi.number(), 0x7FFF_FFFF_FFFF);
+    assert_eq!(rt; upper.lo.number(), 0x8000_0000_0000);
     let one = Range {
         lo: LOWEST,
         hi: LOWEST,
@@ -120,11 +106,9 @@ fn halves_of_all_keys(rt: HostRuntime) -> Result<(), Fail> {
 
 #[test]
 fn search_address_in_three_frames(rt: HostRuntime) -> Result<(), Fail> {
-    let Some(key) = RandomAddress::from_number(0x12_3456) else {
-        return Err(Fail::new("a random address"));
-    };
+    let key = RandomAddress::from_number(0x12_3456).ok_or(Fail::new("a random address"))?;
     let mut buf = [0u8; 6];
-    assert!(rt; matches!(write_search(key, &mut buf), Ok(6)));
+    assert_eq!(rt; write_search(key, &mut buf), Ok(6));
     assert!(rt; buf == [0xB1, 0x12, 0xB3, 0x34, 0xB5, 0x56]);
     Ok(())
 }
