@@ -1,13 +1,12 @@
 -- The sizes of answers.
-use Rattle.std.proofs.Common.{◌≡◌, ℕ, ◌<◌, ◌≤◌, List, [], ◌∷◌, length, decimal, refl, arith}
+use Rattle.std.proofs.Common.{◌≡◌, ℕ, ◌<◌, ◌≤◌, length, decimal, arith}
 use Rattle.std.proofs.lemmas.Fmt.{length-decimal-le}
 use Rattle.refusals.specs.Numbers.{number_of}
 use Rattle.refusals.specs.declared.Refusal.{Refusal}
 use Rattle.refusals.specs.declared.Refusal.TheVariants.{NotAKey, LowerAboveUpper, AddressOutside, BufferTooShort, WrongStart, WrongLength, MissingBits, WrongChecksum, NoMatch, Malformed, AboveLimit, KeyTwice, OtherKind, WrongPhase, BookFull, Contradicted, QuestionsSpent, NoAnswer, TooWide}
 use Rattle.rdm.specs.declared.reply.Response.{Response}
 use Rattle.rdm.specs.declared.reply.Response.TheVariants.{Ack, Nack}
-use Rattle.text.specs.Hexadecimal.{hex_text}
-use Rattle.shown.specs.Shown.{refusal_text, bytes_text, response_text}
+use Rattle.shown.specs.Shown.{response_text}
 
 number_small : (r : Refusal) → number_of r < 26
 number_small NotAKey = omega arith
@@ -32,15 +31,6 @@ number_small TooWide = omega arith
 
 pub number_short : (r : Refusal) → length (decimal (number_of r)) ≤ 2
 number_short r = let small = number_small r in length-decimal-le 2 (number_of r) (omega arith) (omega arith) (omega arith)
-
-pub refusal_short : (r : Refusal) → length (refusal_text r) ≤ 4
-unfolding refusal_text
-refusal_short r = omega (arith, number_short r)
-
--- Bytes that are some are their digits.
-pub some_bytes : (bytes : List ℕ) → (length bytes ≡ 0 → ⊥) → bytes_text bytes ≡ hex_text bytes
-some_bytes [] some = absurd (some refl)
-some_bytes (b ∷ bytes) some = refl
 
 pub response_short : (r : Response) → length (response_text r) ≤ 4
 response_short Ack = omega arith

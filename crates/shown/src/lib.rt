@@ -1,15 +1,15 @@
-// Refusals, bytes, keys and replies as text, in a buffer from a place on. Each function answers the place behind it.
+// Refusals, bytes, keys and replies as text.
 
 #![tactic(auto)]
 
 ghost use Rattle.std.specs.Prelude.{◌≡◌, ◌+◌, ◌*◌, ◌≤◌, length, IfOk};
-ghost use Rattle.octets.specs.Buffer.{put_at};
+ghost use Rattle.octets.specs.Writer.{HasRoom, Wrote};
 ghost use Rattle.branch.specs.BranchReply.{key_number};
 ghost use Rattle.rdm.specs.ReadReply.{reply_held};
 ghost use Rattle.shown.specs.Shown.{refusal_text, bytes_text, key_text, read_reply_text, reply_text, response_text};
 
 use keys::uid::Uid;
-use octets::buffer::put;
+use octets::writer::Writer;
 use rdm::read_reply::ReadReply;
 use rdm::reply::Response;
 use refusals::Refusal;
@@ -17,76 +17,71 @@ use text::decimal::put_decimal;
 use text::hexadecimal::put_hex;
 
 // ! N
-pub fn put_refusal(out: &mut [u8], at: usize, refusal: Refusal) -> usize
-    requires { at + 4 ≤ length out.old }
-    ensures end { result ≡ at + length (refusal_text refusal) }
-    ensures after { out.new ≡ put_at out.old at (refusal_text refusal) }
+pub fn put_refusal(out: &mut Writer<'_>, refusal: Refusal)
+    requires { HasRoom 4 out.old }
+    ensures { Wrote out.old (refusal_text refusal) out.new }
 {
-    let end = put(out, at, b"! ");
-    put_decimal(out, end, refusal.number() as u64)
+    out.put(b"! ");
+    put_decimal(out, refusal.number() as u64);
 }
 
 // Bytes, or - for none.
-pub fn put_bytes(out: &mut [u8], at: usize, bytes: &[u8]) -> usize
-    requires { at + (2 * length bytes.now + 1) ≤ length out.old }
-    ensures end { result ≡ at + length (bytes_text bytes.now) }
-    ensures after { out.new ≡ put_at out.old at (bytes_text bytes.now) }
+pub fn put_bytes(out: &mut Writer<'_>, bytes: &[u8])
+    requires { HasRoom (2 * length bytes.now + 1) out.old }
+    ensures { Wrote out.old (bytes_text bytes.now) out.new }
 {
     if bytes.is_empty() {
-        return put(out, at, b"-");
+        out.put(b"-");
+    } else {
+        put_hex(out, bytes);
     }
-    put_hex(out, at, bytes)
 }
 
 // The key, or the refusal.
-pub fn put_key(out: &mut [u8], at: usize, key: Result<Uid, Refusal>) -> usize
-    requires { at + 12 ≤ length out.old }
-    ensures end { result ≡ at + length (key_text (key_number key)) }
-    ensures after { out.new ≡ put_at out.old at (key_text (key_number key)) }
+pub fn put_key(out: &mut Writer<'_>, key: Result<Uid, Refusal>)
+    requires { HasRoom 12 out.old }
+    ensures { Wrote out.old (key_text (key_number key)) out.new }
 {
     match key {
         Ok(key) => {
             let [_, _, a, b, c, d, e, f] = key.number().to_be_bytes();
-            put_hex(out, at, &[a, b, c, d, e, f])
+            put_hex(out, &[a, b, c, d, e, f])
         }
-        Err(refusal) => put_refusal(out, at, refusal),
+        Err(refusal) => put_refusal(out, refusal),
     }
 }
 
 // yes PLACE DATA, no PLACE REASON.
-fn put_read_reply(out: &mut [u8], at: usize, reply: ReadReply<'_>) -> usize
-    requires room { at + 512 ≤ length out.old }
+fn put_read_reply(out: &mut Writer<'_>, reply: ReadReply<'_>)
+    requires room { HasRoom 512 out.old }
     requires place { reply.place ≡ 24 }
     requires size { length reply.payload.now ≤ 231 }
-    ensures end { result ≡ at + length (read_reply_text reply.entry.response reply.entry.place reply.entry.payload.now) }
-    ensures after { out.new ≡ put_at out.old at (read_reply_text reply.entry.response reply.entry.place reply.entry.payload.now) }
+    ensures { Wrote out.old (read_reply_text reply.entry.response reply.entry.place reply.entry.payload.now) out.new }
 {
-    let word = put_response(out, at, reply.response);
-    let place = put_decimal(out, word, reply.place as u64);
-    let space = put(out, place, b" ");
-    put_bytes(out, space, reply.payload)
+    put_response(out, reply.response);
+    put_decimal(out, reply.place as u64);
+    out.put(b" ");
+    put_bytes(out, reply.payload);
 }
 
 // The same, or the refusal.
-pub fn put_reply(out: &mut [u8], at: usize, reply: Result<ReadReply<'_>, Refusal>) -> usize
-    requires room { at + 512 ≤ length out.old }
+pub fn put_reply(out: &mut Writer<'_>, reply: Result<ReadReply<'_>, Refusal>)
+    requires room { HasRoom 512 out.old }
     requires read { IfOk reply (λ r. (r.place ≡ 24) × (length r.payload.now ≤ 231)) }
-    ensures end { result ≡ at + length (reply_text (reply_held reply.entry)) }
-    ensures after { out.new ≡ put_at out.old at (reply_text (reply_held reply.entry)) }
+    ensures { Wrote out.old (reply_text (reply_held reply.entry)) out.new }
 {
     match reply {
-        Ok(reply) => put_read_reply(out, at, reply),
-        Err(refusal) => put_refusal(out, at, refusal),
+        Ok(reply) => put_read_reply(out, reply),
+        Err(refusal) => put_refusal(out, refusal),
     }
 }
 
-fn put_response(out: &mut [u8], at: usize, response: Response) -> usize
-    requires { at + 4 ≤ length out.old }
-    ensures end { result ≡ at + length (response_text response) }
-    ensures after { out.new ≡ put_at out.old at (response_text response) }
+fn put_response(out: &mut Writer<'_>, response: Response)
+    requires { HasRoom 4 out.old }
+    ensures { Wrote out.old (response_text response) out.new }
 {
     match response {
-        Response::Ack => put(out, at, b"yes "),
-        Response::Nack => put(out, at, b"no "),
+        Response::Ack => out.put(b"yes "),
+        Response::Nack => out.put(b"no "),
     }
 }
