@@ -1,21 +1,23 @@
 -- The answer to a line, or a question mark.
-use Rattle.std.proofs.Common.{◌≡◌, ℕ, ◌<◌, ◌≤◌, List, ◌++◌, length, Some, None, codes, Option, ap, ◌∙◌, arith}
+use Rattle.std.proofs.Common.{◌≡◌, ℕ, ◌<◌, ◌≤◌, true, false, List, ◌++◌, length, is_some, Some, None, codes, Option, subst}
 use Rattle.std.proofs.lemmas.Bool.{lt-ltb, le-ltb}
-use Rattle.octets.specs.Buffer.{put_at}
-use Rattle.octets.proofs.Buffers.{Puts}
-use Rattle.requests.specs.Answer.{text_end, with_text, or_unread, answer_text, answer_line}
+use Rattle.octets.specs.Writer.{Wrote}
+use Rattle.octets.specs.declared.writer.Writer.{Writer}
+use Rattle.requests.specs.Answer.{Answered, or_unread, answer_text, answer_line}
 
-pub some_answer : (o : Option (List ℕ)) (at end : ℕ) (out after : List ℕ) → Some end ≡ text_end at o → after ≡ with_text out at o
-    → Puts out at (or_unread o) end after
-some_answer (Some text) at end out after e left = (cc, left)
-some_answer None at end out after e left = absurd (let z : ◌≡◌ {A = ℕ} 0 1 = cc in omega arith)
+module _ (old mid : Writer) (r : Option (Unit {0})) where
+  pub some_answer : (o : Option (List ℕ)) → Answered old o r mid → is_some r ≡ true → Wrote old (or_unread o) mid
+  some_answer (Some text) (is, wrote) some = wrote
+  some_answer None (is, same) some = absurd cc
 
--- Nothing was put, and then a question mark.
-pub no_answer : (o : Option (List ℕ)) (at end : ℕ) (out same after : List ℕ) → None ≡ text_end at o → same ≡ with_text out at o
-    → Puts same at (codes "?") end after
-    → Puts out at (or_unread o) end after
-no_answer (Some text) at end out same after e left put = absurd (let z : ◌≡◌ {A = ℕ} 0 1 = cc in omega arith)
-no_answer None at end out same after e left (is, put) = (is, put ∙ ap (λ b. put_at b at (codes "?")) left)
+  -- Nothing was put, and then a question mark.
+  pub nothing_put : (o : Option (List ℕ)) → Answered old o r mid → is_some r ≡ false → mid ≡ old
+  nothing_put (Some text) (is, wrote) none = absurd cc
+  nothing_put None (is, same) none = same
+
+  pub no_answer : (o : Option (List ℕ)) (new : Writer) → Answered old o r mid → is_some r ≡ false → Wrote mid (codes "?") new → Wrote old (or_unread o) new
+  no_answer (Some text) new (is, wrote) none put = absurd cc
+  no_answer None new (is, same) none put = subst (λ w. Wrote w (codes "?") new) same put
 
 -- Which line is printed.
 pub long_line : (line : List ℕ) → 2048 < length line → answer_line line ≡ codes "= ?"

@@ -1,20 +1,18 @@
 -- The answers, as text.
-use Rattle.std.specs.Prelude.{ℕ, ◌+◌, cond, List, ◌++◌, length, Some, None, Ok, Err, codes, Option, Result, nat_lt}
-use Rattle.octets.specs.Buffer.{put_at}
+use Rattle.std.specs.Prelude.{◌≡◌, ℕ, cond, List, ◌++◌, length, Some, None, Ok, Err, codes, Option, Result, nat_lt}
+use Rattle.octets.specs.Writer.{Wrote}
+use Rattle.octets.specs.declared.writer.Writer.{Writer}
 use Rattle.refusals.specs.declared.Refusal.{Refusal}
 use Rattle.branch.specs.BranchReply.{branch_read}
 use Rattle.rdm.specs.ReadReply.{reply_at}
 use Rattle.rdm.specs.declared.read_reply.Expected.{Expected}
 use Rattle.text.specs.Digits.{and_then}
 use Rattle.text.specs.Hexadecimal.{hex_text}
-use Rattle.fields.specs.Fields.{field_at, byte_field, two_byte_field, hex_field, last_bytes}
+use Rattle.fields.specs.Fields.{field_at, byte_field, two_byte_field, hex_field, last_bytes, same_word}
 use Rattle.outgoing.specs.Outgoing.{outgoing_refusal, outgoing_frame}
 use Rattle.shown.specs.Shown.{refusal_text, key_text, reply_text}
-use Rattle.requests.specs.Kind.{kind_of}
 use Rattle.requests.specs.Room.{answered_in}
 use Rattle.requests.specs.Writing.{writing_at}
-use Rattle.requests.specs.declared.kind.Kind.{Kind}
-use Rattle.requests.specs.declared.kind.Kind.TheVariants as kind
 use Rattle.requests.specs.declared.writing.Writing.{Writing}
 
 -- The frame that was written, or its refusal.
@@ -41,30 +39,19 @@ reply_answer line = and_then (expected_at line) (λ e. and_then (last_bytes 5 li
 abbrev pub branch_answer : List ℕ → Option (List ℕ)
 branch_answer line = and_then (last_bytes 1 line) (λ bytes. Some (key_text (branch_read bytes)))
 
-abbrev pub writing_answer : Kind → List ℕ → Option (List ℕ)
-writing_answer k line = and_then (writing_at k line) (λ w. Some (writing_text w))
+abbrev pub writing_answer : List ℕ → List ℕ → Option (List ℕ)
+writing_answer word line = and_then (writing_at word line) (λ w. Some (writing_text w))
 
--- The answer to a request of a kind; none if the line cannot be read.
-abbrev pub answer_of : Kind → List ℕ → Option (List ℕ)
-answer_of kind.Reply line = reply_answer line
-answer_of kind.ReadBranch line = branch_answer line
-answer_of kind.Branch line = writing_answer kind.Branch line
-answer_of kind.Mute line = writing_answer kind.Mute line
-answer_of kind.UnMute line = writing_answer kind.UnMute line
-answer_of kind.DeviceInfo line = writing_answer kind.DeviceInfo line
-answer_of kind.StartAddress line = writing_answer kind.StartAddress line
-answer_of kind.BranchReply line = writing_answer kind.BranchReply line
-answer_of kind.Search line = writing_answer kind.Search line
-answer_of kind.Program line = writing_answer kind.Program line
+-- The answer to a request that begins with a word; none if the line cannot be read.
+abbrev pub answer_of : List ℕ → List ℕ → Option (List ℕ)
+answer_of word line =
+    cond (same_word word (codes "reply")) (reply_answer line)
+    (cond (same_word word (codes "readbranch")) (branch_answer line) (writing_answer word line))
 
--- Where a text ends that is put from a place on, and the buffer then; nothing is put if there is none.
-abbrev pub text_end : ℕ → Option (List ℕ) → Option ℕ
-text_end at (Some text) = Some (at + length text)
-text_end at None = None
-
-abbrev pub with_text : List ℕ → ℕ → Option (List ℕ) → List ℕ
-with_text buf at (Some text) = put_at buf at text
-with_text buf at None = buf
+-- A text was put, if there is one, and nothing else was.
+abbrev pub Answered : Writer → Option (List ℕ) → Option (Unit {0}) → Writer → Type 0
+Answered old (Some text) result new = (result ≡ Some tt) × Wrote old text new
+Answered old None result new = (result ≡ None) × (new ≡ old)
 
 -- ? stands for a line that cannot be read.
 abbrev pub or_unread : Option (List ℕ) → List ℕ
@@ -72,7 +59,7 @@ or_unread (Some text) = text
 or_unread None = codes "?"
 
 abbrev pub known_answer : List ℕ → Option (List ℕ)
-known_answer line = and_then (and_then (field_at 0 line) kind_of) (λ k. answer_of k line)
+known_answer line = and_then (field_at 0 line) (λ word. answer_of word line)
 
 unfoldable pub answer_text : List ℕ → List ℕ
 answer_text line = or_unread (known_answer line)

@@ -1,4 +1,3 @@
 pub mod Answer
-pub mod Kind
 pub mod Room
 pub mod Writing

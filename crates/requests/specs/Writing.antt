@@ -1,44 +1,52 @@
 -- What a request asks to be written.
-use Rattle.std.specs.Prelude.{ℕ, List, Some, None, Option}
+use Rattle.std.specs.Prelude.{ℕ, cond, List, Some, None, codes, Option}
 use Rattle.text.specs.Digits.{and_then}
-use Rattle.fields.specs.Fields.{byte_field, hex_field, decimal_field, last_decimal}
-use Rattle.requests.specs.declared.kind.Kind.{Kind}
-use Rattle.requests.specs.declared.kind.Kind.TheVariants as kind
+use Rattle.fields.specs.Fields.{byte_field, hex_field, decimal_field, last_decimal, same_word}
 use Rattle.requests.specs.declared.writing.Writing.{Writing}
 use Rattle.outgoing.specs.declared.Outgoing.{Outgoing}
 use Rattle.outgoing.specs.declared.Outgoing.TheVariants.{Branch, Mute, UnMute, DeviceInfo, StartAddress, BranchReply, Search, Program}
 
--- TN LO HI, TN KEY, TN KEY ADDR, KEY or ADDR.
-abbrev pub outgoing_at : Kind → List ℕ → Option Outgoing
-outgoing_at kind.Branch line =
-    and_then (byte_field 1 line) (λ tn. and_then (hex_field 2 line) (λ lo. and_then (hex_field 3 line) (λ hi. Some (Branch tn lo hi))))
-outgoing_at kind.Mute line = and_then (byte_field 1 line) (λ tn. and_then (hex_field 2 line) (λ to. Some (Mute tn to)))
-outgoing_at kind.UnMute line = and_then (byte_field 1 line) (λ tn. and_then (hex_field 2 line) (λ to. Some (UnMute tn to)))
-outgoing_at kind.DeviceInfo line =
-    and_then (byte_field 1 line) (λ tn. and_then (hex_field 2 line) (λ key. Some (DeviceInfo tn key)))
-outgoing_at kind.StartAddress line =
+-- A frame, and ROOM in the field with a number, which is the last.
+abbrev pub asked : Outgoing → ℕ → List ℕ → Option Writing
+asked frame place line = and_then (last_decimal place line) (λ room. Some (record { frame = frame; room = room }))
+
+-- TN LO HI, TN KEY, TN KEY ADDR, KEY or ADDR, and ROOM.
+unfoldable pub branch_at : List ℕ → Option Writing
+branch_at line =
     and_then (byte_field 1 line)
-    (λ tn. and_then (hex_field 2 line) (λ key. and_then (decimal_field 3 line) (λ slot. Some (StartAddress tn key slot))))
-outgoing_at kind.BranchReply line = and_then (hex_field 1 line) (λ key. Some (BranchReply key))
-outgoing_at kind.Search line = and_then (hex_field 1 line) (λ key. Some (Search key))
-outgoing_at kind.Program line = and_then (decimal_field 1 line) (λ slot. Some (Program slot))
-outgoing_at kind.Reply line = None
-outgoing_at kind.ReadBranch line = None
+    (λ tn. and_then (hex_field 2 line) (λ lo. and_then (hex_field 3 line) (λ hi. asked (Branch tn lo hi) 4 line)))
 
--- ROOM is the last field.
-abbrev pub room_place : Kind → ℕ
-room_place kind.Branch = 4
-room_place kind.Mute = 3
-room_place kind.UnMute = 3
-room_place kind.DeviceInfo = 3
-room_place kind.StartAddress = 4
-room_place kind.BranchReply = 2
-room_place kind.Search = 2
-room_place kind.Program = 2
-room_place kind.Reply = 0
-room_place kind.ReadBranch = 0
+unfoldable pub mute_at : List ℕ → Option Writing
+mute_at line = and_then (byte_field 1 line) (λ tn. and_then (hex_field 2 line) (λ to. asked (Mute tn to) 3 line))
 
-abbrev pub writing_at : Kind → List ℕ → Option Writing
-writing_at kind line =
-    and_then (outgoing_at kind line)
-    (λ frame. and_then (last_decimal (room_place kind) line) (λ room. Some (record { frame = frame; room = room })))
+unfoldable pub un_mute_at : List ℕ → Option Writing
+un_mute_at line = and_then (byte_field 1 line) (λ tn. and_then (hex_field 2 line) (λ to. asked (UnMute tn to) 3 line))
+
+unfoldable pub device_info_at : List ℕ → Option Writing
+device_info_at line = and_then (byte_field 1 line) (λ tn. and_then (hex_field 2 line) (λ key. asked (DeviceInfo tn key) 3 line))
+
+unfoldable pub start_address_at : List ℕ → Option Writing
+start_address_at line =
+    and_then (byte_field 1 line)
+    (λ tn. and_then (hex_field 2 line) (λ key. and_then (decimal_field 3 line) (λ slot. asked (StartAddress tn key slot) 4 line)))
+
+unfoldable pub branch_reply_at : List ℕ → Option Writing
+branch_reply_at line = and_then (hex_field 1 line) (λ key. asked (BranchReply key) 2 line)
+
+unfoldable pub search_at : List ℕ → Option Writing
+search_at line = and_then (hex_field 1 line) (λ key. asked (Search key) 2 line)
+
+unfoldable pub program_at : List ℕ → Option Writing
+program_at line = and_then (decimal_field 1 line) (λ slot. asked (Program slot) 2 line)
+
+-- By the word that begins the line.
+abbrev pub writing_at : List ℕ → List ℕ → Option Writing
+writing_at word line =
+    cond (same_word word (codes "branch")) (branch_at line)
+    (cond (same_word word (codes "mute")) (mute_at line)
+    (cond (same_word word (codes "unmute")) (un_mute_at line)
+    (cond (same_word word (codes "info")) (device_info_at line)
+    (cond (same_word word (codes "start")) (start_address_at line)
+    (cond (same_word word (codes "branchreply")) (branch_reply_at line)
+    (cond (same_word word (codes "search")) (search_at line)
+    (cond (same_word word (codes "program")) (program_at line) None)))))))

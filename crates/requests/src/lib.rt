@@ -3,21 +3,20 @@
 #![tactic(auto)]
 
 ghost use Rattle.std.specs.Prelude.{◌≡◌, ◌+◌, ◌≤◌, length, if◌then◌else◌, Ok, Err, nat_lt};
-ghost use Rattle.octets.specs.Buffer.{put_at, begun};
+ghost use Rattle.octets.specs.Buffer.{begun};
+ghost use Rattle.octets.specs.Writer.{HasRoom, Wrote};
 ghost use Rattle.refusals.specs.declared.Refusal.TheVariants.{BufferTooShort};
-ghost use Rattle.requests.specs.Answer.{writing_text, expected_at, reply_answer, branch_answer, writing_answer, known_answer, answer_text, answer_line, text_end, with_text};
+ghost use Rattle.requests.specs.Answer.{writing_text, expected_at, reply_answer, branch_answer, writing_answer, known_answer, answer_text, answer_line, Answered};
 
-use crate::kind::Kind;
 use crate::writing::Writing;
 use branch::read_branch_reply;
-use fields::{byte_field, field, hex_field, last_bytes, two_byte_field};
-use octets::buffer::put;
+use fields::{byte_field, field, hex_field, is_word, last_bytes, two_byte_field};
+use octets::writer::Writer;
 use rdm::read_reply::{Expected, read_reply};
 use refusals::Refusal;
 use shown::{put_key, put_refusal, put_reply};
 use text::hexadecimal::put_hex;
 
-mod kind;
 mod writing;
 
 // CLASS PID TN KEY
@@ -32,82 +31,70 @@ fn read_expected(line: &[u8]) -> Option<Expected>
     })
 }
 
-fn answer_reply(line: &[u8], out: &mut [u8], at: usize) -> Option<usize>
+fn answer_reply(out: &mut Writer<'_>, line: &[u8]) -> Option<()>
     requires size { length line.now ≤ 2048 }
-    requires room { at + 512 ≤ length out.old }
-    ensures end { result ≡ text_end at (reply_answer line.now) }
-    ensures after { out.new ≡ with_text out.old at (reply_answer line.now) }
+    requires room { HasRoom 512 out.old }
+    ensures { Answered out.old (reply_answer line.now) result out.new }
 {
     let expected = read_expected(line)?;
     let mut bytes = [0u8; 1024];
     let size = last_bytes(5, line, &mut bytes)?;
-    Some(put_reply(out, at, read_reply(expected, &bytes[0..size])))
+    Some(put_reply(out, read_reply(expected, &bytes[0..size])))
 }
 
-fn answer_branch(line: &[u8], out: &mut [u8], at: usize) -> Option<usize>
+fn answer_branch(out: &mut Writer<'_>, line: &[u8]) -> Option<()>
     requires size { length line.now ≤ 2048 }
-    requires room { at + 512 ≤ length out.old }
-    ensures end { result ≡ text_end at (branch_answer line.now) }
-    ensures after { out.new ≡ with_text out.old at (branch_answer line.now) }
+    requires room { HasRoom 512 out.old }
+    ensures { Answered out.old (branch_answer line.now) result out.new }
 {
     let mut bytes = [0u8; 1024];
     let size = last_bytes(1, line, &mut bytes)?;
-    Some(put_key(out, at, read_branch_reply(&bytes[0..size])))
+    Some(put_key(out, read_branch_reply(&bytes[0..size])))
 }
 
 // The frame that was written, or its refusal.
-fn put_writing(out: &mut [u8], at: usize, writing: Writing) -> usize
-    requires { at + 128 ≤ length out.old }
-    ensures end { result ≡ at + length (writing_text writing) }
-    ensures after { out.new ≡ put_at out.old at (writing_text writing) }
+fn put_writing(out: &mut Writer<'_>, writing: Writing)
+    requires { HasRoom 128 out.old }
+    ensures { Wrote out.old (writing_text writing) out.new }
 {
     let mut buf = [0u8; 64];
     match writing.write(&mut buf) {
-        Ok(n) => put_hex(out, at, &buf[0..n]),
-        Err(refusal) => put_refusal(out, at, refusal),
+        Ok(n) => put_hex(out, &buf[0..n]),
+        Err(refusal) => put_refusal(out, refusal),
     }
 }
 
-fn answer_writing(kind: Kind, line: &[u8], out: &mut [u8], at: usize) -> Option<usize>
-    requires { at + 512 ≤ length out.old }
-    ensures end { result ≡ text_end at (writing_answer kind line.now) }
-    ensures after { out.new ≡ with_text out.old at (writing_answer kind line.now) }
+fn answer_writing(out: &mut Writer<'_>, word: &[u8], line: &[u8]) -> Option<()>
+    requires { HasRoom 512 out.old }
+    ensures { Answered out.old (writing_answer word.now line.now) result out.new }
 {
-    let writing = Writing::read(kind, line)?;
-    Some(put_writing(out, at, writing))
+    let writing = Writing::read(word, line)?;
+    Some(put_writing(out, writing))
 }
 
 // The answer to a request that can be read.
-fn answer_known(line: &[u8], out: &mut [u8], at: usize) -> Option<usize>
+fn answer_known(out: &mut Writer<'_>, line: &[u8]) -> Option<()>
     requires size { length line.now ≤ 2048 }
-    requires room { at + 512 ≤ length out.old }
-    ensures end { result ≡ text_end at (known_answer line.now) }
-    ensures after { out.new ≡ with_text out.old at (known_answer line.now) }
+    requires room { HasRoom 512 out.old }
+    ensures { Answered out.old (known_answer line.now) result out.new }
 {
-    let kind = Kind::read(field(0, line)?)?;
-    match kind {
-        Kind::Reply => answer_reply(line, out, at),
-        Kind::ReadBranch => answer_branch(line, out, at),
-        Kind::Branch
-        | Kind::Mute
-        | Kind::UnMute
-        | Kind::DeviceInfo
-        | Kind::StartAddress
-        | Kind::BranchReply
-        | Kind::Search
-        | Kind::Program => answer_writing(kind, line, out, at),
+    let word = field(0, line)?;
+    if is_word(word, b"reply") {
+        answer_reply(out, line)
+    } else if is_word(word, b"readbranch") {
+        answer_branch(out, line)
+    } else {
+        answer_writing(out, word, line)
     }
 }
 
-fn put_answer(line: &[u8], out: &mut [u8], at: usize) -> usize
+fn put_answer(out: &mut Writer<'_>, line: &[u8])
     requires size { length line.now ≤ 2048 }
-    requires room { at + 512 ≤ length out.old }
-    ensures end { result ≡ at + length (answer_text line.now) }
-    ensures after { out.new ≡ put_at out.old at (answer_text line.now) }
+    requires room { HasRoom 512 out.old }
+    ensures { Wrote out.old (answer_text line.now) out.new }
 {
-    match answer_known(line, out, at) {
-        Some(end) => end,
-        None => put(out, at, b"?"),
+    if answer_known(out, line).is_none() {
+        out.put(b"?");
     }
 }
 
@@ -117,17 +104,17 @@ pub const LONGEST: usize = 2048;
 // A buffer that suffices for every answer.
 pub const ROOM: usize = 4096;
 
-fn put_line(line: &[u8], out: &mut [u8]) -> usize
-    requires { 4096 ≤ length out.old }
-    ensures end { result ≡ length (answer_line line.now) }
-    ensures after { out.new ≡ begun out.old (answer_line line.now) }
+fn put_line(out: &mut Writer<'_>, line: &[u8])
+    requires { HasRoom 4096 out.old }
+    ensures { Wrote out.old (answer_line line.now) out.new }
 {
     if line.len() > LONGEST {
-        return put(out, 0, b"= ?");
+        out.put(b"= ?");
+    } else {
+        out.put(line);
+        out.put(b" = ");
+        put_answer(out, line);
     }
-    let sign = put(out, 0, line);
-    let text = put(out, sign, b" = ");
-    put_answer(line, out, text)
 }
 
 // Writes a request line and its answer to the beginning of a buffer, and answers their length. Refuses a buffer of less
@@ -139,5 +126,7 @@ pub fn answer(line: &[u8], out: &mut [u8]) -> Result<usize, Refusal>
     if out.len() < ROOM {
         return Err(Refusal::BufferTooShort);
     }
-    Ok(put_line(line, out))
+    let mut writer = Writer::new(out);
+    put_line(&mut writer, line);
+    Ok(writer.len())
 }

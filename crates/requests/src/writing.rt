@@ -2,10 +2,9 @@
 ghost use Rattle.std.specs.Prelude.{◌≡◌, ◌<◌, ◌≤◌, length, take, IfOk};
 ghost use Rattle.outgoing.specs.Outgoing.{outgoing_refusal, outgoing_frame};
 ghost use Rattle.requests.specs.Room.{answered_in};
-ghost use Rattle.requests.specs.Writing.{outgoing_at, room_place, writing_at};
+ghost use Rattle.requests.specs.Writing.{asked, branch_at, mute_at, un_mute_at, device_info_at, start_address_at, branch_reply_at, search_at, program_at, writing_at};
 
-use crate::kind::Kind;
-use fields::{byte_field, decimal_field, hex_field, last_decimal};
+use fields::{byte_field, decimal_field, hex_field, is_word, last_decimal};
 use outgoing::Outgoing;
 use refusals::Refusal;
 
@@ -17,15 +16,29 @@ pub struct Writing {
 }
 
 impl Writing {
-    pub fn read(kind: Kind, line: &[u8]) -> Option<Writing>
-        ensures { result ≡ writing_at kind line.now }
+    // What a line asks for, by the word that begins it.
+    pub fn read(word: &[u8], line: &[u8]) -> Option<Writing>
+        ensures { result ≡ writing_at word.now line.now }
     {
-        let frame = read_frame(kind, line)?;
-        let room = last_decimal(room_place(kind), line)?;
-        Some(Writing {
-            frame,
-            room: room as usize,
-        })
+        if is_word(word, b"branch") {
+            branch(line)
+        } else if is_word(word, b"mute") {
+            mute(line)
+        } else if is_word(word, b"unmute") {
+            un_mute(line)
+        } else if is_word(word, b"info") {
+            device_info(line)
+        } else if is_word(word, b"start") {
+            start_address(line)
+        } else if is_word(word, b"branchreply") {
+            branch_reply(line)
+        } else if is_word(word, b"search") {
+            search(line)
+        } else if is_word(word, b"program") {
+            program(line)
+        } else {
+            None
+        }
     }
 
     // Writes the frame into a buffer as if it had the size that is asked for. No frame is longer than 64 bytes, so more
@@ -40,54 +53,108 @@ impl Writing {
     }
 }
 
-fn read_frame(kind: Kind, line: &[u8]) -> Option<Outgoing>
-    ensures { result ≡ outgoing_at kind line.now }
+// A frame, in the room that the last field tells.
+fn asked(frame: Outgoing, place: usize, line: &[u8]) -> Option<Writing>
+    requires { place < 16 }
+    ensures { result ≡ asked frame place line.now }
 {
-    match kind {
-        Kind::Branch => Some(Outgoing::Branch {
-            transaction: byte_field(1, line)?,
-            lo: hex_field(2, line)?,
-            hi: hex_field(3, line)?,
-        }),
-        Kind::Mute => Some(Outgoing::Mute {
-            transaction: byte_field(1, line)?,
-            to: hex_field(2, line)?,
-        }),
-        Kind::UnMute => Some(Outgoing::UnMute {
-            transaction: byte_field(1, line)?,
-            to: hex_field(2, line)?,
-        }),
-        Kind::DeviceInfo => Some(Outgoing::DeviceInfo {
-            transaction: byte_field(1, line)?,
-            key: hex_field(2, line)?,
-        }),
-        Kind::StartAddress => Some(Outgoing::StartAddress {
-            transaction: byte_field(1, line)?,
-            key: hex_field(2, line)?,
-            slot: decimal_field(3, line)?,
-        }),
-        Kind::BranchReply => Some(Outgoing::BranchReply {
-            key: hex_field(1, line)?,
-        }),
-        Kind::Search => Some(Outgoing::Search {
-            key: hex_field(1, line)?,
-        }),
-        Kind::Program => Some(Outgoing::Program {
-            slot: decimal_field(1, line)?,
-        }),
-        Kind::Reply | Kind::ReadBranch => None,
-    }
+    Some(Writing {
+        frame,
+        room: last_decimal(place, line)? as usize,
+    })
 }
 
-// Which field has the size of the buffer.
-fn room_place(kind: Kind) -> usize
-    ensures value { result ≡ room_place kind }
-    ensures bound { result < 16 }
+// TN LO HI ROOM
+#[tactic(auto, unfolding(crate::specs::Writing::branch_at))]
+fn branch(line: &[u8]) -> Option<Writing>
+    ensures { result ≡ branch_at line.now }
 {
-    match kind {
-        Kind::Branch | Kind::StartAddress => 4,
-        Kind::Mute | Kind::UnMute | Kind::DeviceInfo => 3,
-        Kind::BranchReply | Kind::Search | Kind::Program => 2,
-        Kind::Reply | Kind::ReadBranch => 0,
-    }
+    let frame = Outgoing::Branch {
+        transaction: byte_field(1, line)?,
+        lo: hex_field(2, line)?,
+        hi: hex_field(3, line)?,
+    };
+    asked(frame, 4, line)
+}
+
+// TN KEY ROOM
+#[tactic(auto, unfolding(crate::specs::Writing::mute_at))]
+fn mute(line: &[u8]) -> Option<Writing>
+    ensures { result ≡ mute_at line.now }
+{
+    let frame = Outgoing::Mute {
+        transaction: byte_field(1, line)?,
+        to: hex_field(2, line)?,
+    };
+    asked(frame, 3, line)
+}
+
+// TN KEY ROOM
+#[tactic(auto, unfolding(crate::specs::Writing::un_mute_at))]
+fn un_mute(line: &[u8]) -> Option<Writing>
+    ensures { result ≡ un_mute_at line.now }
+{
+    let frame = Outgoing::UnMute {
+        transaction: byte_field(1, line)?,
+        to: hex_field(2, line)?,
+    };
+    asked(frame, 3, line)
+}
+
+// TN KEY ROOM
+#[tactic(auto, unfolding(crate::specs::Writing::device_info_at))]
+fn device_info(line: &[u8]) -> Option<Writing>
+    ensures { result ≡ device_info_at line.now }
+{
+    let frame = Outgoing::DeviceInfo {
+        transaction: byte_field(1, line)?,
+        key: hex_field(2, line)?,
+    };
+    asked(frame, 3, line)
+}
+
+// TN KEY ADDR ROOM
+#[tactic(auto, unfolding(crate::specs::Writing::start_address_at))]
+fn start_address(line: &[u8]) -> Option<Writing>
+    ensures { result ≡ start_address_at line.now }
+{
+    let frame = Outgoing::StartAddress {
+        transaction: byte_field(1, line)?,
+        key: hex_field(2, line)?,
+        slot: decimal_field(3, line)?,
+    };
+    asked(frame, 4, line)
+}
+
+// KEY ROOM
+#[tactic(auto, unfolding(crate::specs::Writing::branch_reply_at))]
+fn branch_reply(line: &[u8]) -> Option<Writing>
+    ensures { result ≡ branch_reply_at line.now }
+{
+    let frame = Outgoing::BranchReply {
+        key: hex_field(1, line)?,
+    };
+    asked(frame, 2, line)
+}
+
+// KEY ROOM
+#[tactic(auto, unfolding(crate::specs::Writing::search_at))]
+fn search(line: &[u8]) -> Option<Writing>
+    ensures { result ≡ search_at line.now }
+{
+    let frame = Outgoing::Search {
+        key: hex_field(1, line)?,
+    };
+    asked(frame, 2, line)
+}
+
+// ADDR ROOM
+#[tactic(auto, unfolding(crate::specs::Writing::program_at))]
+fn program(line: &[u8]) -> Option<Writing>
+    ensures { result ≡ program_at line.now }
+{
+    let frame = Outgoing::Program {
+        slot: decimal_field(1, line)?,
+    };
+    asked(frame, 2, line)
 }

@@ -1,22 +1,18 @@
+use Rattle.std.proofs.Common.{sym, subst, arith}
+use Rattle.octets.specs.Writer.{HasRoom}
 use Rattle.requests.specs.Answer.{known_answer, answer_text}
-use Rattle.requests.proofs.Answers.{some_answer, no_answer}
+use Rattle.requests.proofs.Answers.{some_answer, nothing_put, no_answer}
 use Rattle.requests.proofs.put_answer.Goals as goal
 
-pub returns-in-Some : goal.returns-in-Some
-unfolding answer_text
-returns-in-Some c =
-    let done =
-    some_answer (known_answer c.args.line.now) c.args.at c.in-Some.end c.args.out.now c.answer_known.new.out
-    c.in-Some.ensures.end
-    c.answer_known.ensures.after in
-    record { end = done.0; after = done.1 }
+pub put-requires : goal.put-requires
+put-requires c =
+    let same = nothing_put _ _ _ (known_answer c.args.line.now) c.answer_known.ensures c.if-is_none.ensures in
+    subst (HasRoom 1) (sym same) (omega arith)
 
-pub returns-in-None : goal.returns-in-None
+pub returns-then-is_none : goal.returns-then-is_none
 unfolding answer_text
-returns-in-None c =
-    let done =
-    no_answer (known_answer c.args.line.now) c.args.at c.put.result c.args.out.now c.answer_known.new.out c.put.new.buf
-    c.in-None.ensures.end
-    c.answer_known.ensures.after
-    (c.put.ensures.end, c.put.ensures.after) in
-    record { end = done.0; after = done.1 }
+returns-then-is_none c = no_answer _ _ _ (known_answer c.args.line.now) _ c.answer_known.ensures c.if-is_none.ensures c.put.ensures
+
+pub returns-else-is_none : goal.returns-else-is_none
+unfolding answer_text
+returns-else-is_none c = some_answer _ _ _ (known_answer c.args.line.now) c.answer_known.ensures c.if-is_none.ensures
