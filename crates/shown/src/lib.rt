@@ -2,7 +2,7 @@
 
 #![tactic(auto)]
 
-ghost use Rattle.std.specs.Prelude.{◌≡◌, ◌+◌, ◌*◌, ◌≤◌, length, IfOk};
+ghost use Rattle.std.specs.Prelude.{◌≡◌, ◌+◌, ◌*◌, length};
 ghost use Rattle.octets.specs.Writer.{HasRoom, Wrote};
 ghost use Rattle.branch.specs.BranchReply.{key_number};
 ghost use Rattle.rdm.specs.ReadReply.{reply_held};
@@ -10,8 +10,8 @@ ghost use Rattle.shown.specs.Shown.{refusal_text, bytes_text, key_text, read_rep
 
 use keys::uid::Uid;
 use octets::writer::Writer;
-use rdm::read_reply::ReadReply;
 use rdm::reply::Response;
+use rdm::reply_as_read::ReadReply;
 use refusals::Refusal;
 use text::decimal::put_decimal;
 use text::hexadecimal::put_hex;
@@ -43,19 +43,14 @@ pub fn put_key(out: &mut Writer<'_>, key: Result<Uid, Refusal>)
     ensures { Wrote out.old (key_text (key_number key)) out.new }
 {
     match key {
-        Ok(key) => {
-            let [_, _, a, b, c, d, e, f] = key.number().to_be_bytes();
-            put_hex(out, &[a, b, c, d, e, f])
-        }
+        Ok(key) => put_hex(out, &key.number().to_be_bytes()[2..]),
         Err(refusal) => put_refusal(out, refusal),
     }
 }
 
 // yes PLACE DATA, no PLACE REASON.
 fn put_read_reply(out: &mut Writer<'_>, reply: ReadReply<'_>)
-    requires room { HasRoom 512 out.old }
-    requires place { reply.place ≡ 24 }
-    requires size { length reply.payload.now ≤ 231 }
+    requires { HasRoom 512 out.old }
     ensures { Wrote out.old (read_reply_text reply.entry.response reply.entry.place reply.entry.payload.now) out.new }
 {
     put_response(out, reply.response);
@@ -66,8 +61,7 @@ fn put_read_reply(out: &mut Writer<'_>, reply: ReadReply<'_>)
 
 // The same, or the refusal.
 pub fn put_reply(out: &mut Writer<'_>, reply: Result<ReadReply<'_>, Refusal>)
-    requires room { HasRoom 512 out.old }
-    requires read { IfOk reply (λ r. (r.place ≡ 24) × (length r.payload.now ≤ 231)) }
+    requires { HasRoom 512 out.old }
     ensures { Wrote out.old (reply_text (reply_held reply.entry)) out.new }
 {
     match reply {
