@@ -1,2 +1,3 @@
+pub mod Among
 pub mod Fixtures
 pub mod Meanings

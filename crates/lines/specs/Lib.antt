@@ -1,3 +1,4 @@
 pub mod Counted
 pub mod Meaning
 pub mod Rules
+pub mod Twice

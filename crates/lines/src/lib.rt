@@ -6,3 +6,4 @@ pub mod answers;
 pub mod counted;
 pub mod line;
 pub mod roll_call;
+pub mod twice;
