@@ -3,7 +3,7 @@ ghost use Rattle.std.specs.Prelude.{◌≡◌, ℕ, List, ◌++◌};
 ghost use Rattle.std.specs.Option.{option_to_list};
 ghost use Rattle.units.specs.Received.{received, is_nothing};
 
-#[derive(Clone, Copy)]
+#[derive(Clone, Copy, PartialEq, Eq)]
 pub enum Received {
     // Nobody replied.
     Nothing,
@@ -28,6 +28,6 @@ impl Received {
     pub fn is_nothing(self) -> bool
         ensures { result ≡ is_nothing self }
     {
-        matches!(self, Received::Nothing)
+        self == Received::Nothing
     }
 }

@@ -2,7 +2,7 @@
 ghost use Rattle.std.specs.Prelude.{◌≡◌};
 ghost use Rattle.units.specs.State.{is_enabled, is_disabled};
 
-#[derive(Clone, Copy)]
+#[derive(Clone, Copy, PartialEq, Eq)]
 pub enum State {
     // It takes no part: only A500, sent twice, reaches it.
     Disabled,
@@ -16,12 +16,12 @@ impl State {
     pub fn is_enabled(self) -> bool
         ensures { result ≡ is_enabled self }
     {
-        matches!(self, State::Enabled)
+        self == State::Enabled
     }
 
     pub fn is_disabled(self) -> bool
         ensures { result ≡ is_disabled self }
     {
-        matches!(self, State::Disabled)
+        self == State::Disabled
     }
 }

@@ -25,4 +25,13 @@ impl Unit {
     }
 }
 
+// The unit of the lowest key, as it is made.
+impl Default for Unit {
+    ghost is_default = { λ u. u ≡ fresh_unit u.key };
+
+    fn default() -> Unit {
+        Unit::fresh(RandomAddress { value: 0 })
+    }
+}
+
 pub mod reaction;

@@ -21,15 +21,17 @@ impl Unit {
     fn is_selected(&self, bus: &Bus) -> bool
         ensures { result ≡ is_selected bus.now self.now }
     {
-        !self.state.is_disabled() && self.is_sought(bus)
+        self.state != State::Disabled && self.is_sought(bus)
     }
 
     fn reply(&self, frame: Frame, bus: &Bus) -> Option<u8>
         ensures { result ≡ unit_reply bus.now frame self.now }
     {
         match frame {
-            Frame::Compare if self.state.is_enabled() && self.key.number() <= bus.search.number() =>
-                Some(YES),
+            Frame::Compare
+                if self.state == State::Enabled && self.key.number() <= bus.search.number() => Some(
+                YES,
+            ),
             Frame::QueryShortAddress if self.is_selected(bus) => Some(address_reply(self.address)),
             _ => None,
         }
@@ -41,7 +43,7 @@ impl Unit {
         match frame {
             Frame::Terminate => self.state = State::Disabled,
             Frame::Initialise if bus.was_initialise() => self.state = State::Enabled,
-            Frame::Withdraw if self.state.is_enabled() && self.is_sought(bus) => {
+            Frame::Withdraw if self.state == State::Enabled && self.is_sought(bus) => {
                 self.state = State::Withdrawn;
             }
             Frame::Program(address) if self.is_selected(bus) => self.address = Some(address),
