@@ -2,7 +2,7 @@
 use keys::address::Address;
 
 // The answer to a probe of a range of keys.
-#[derive(Clone, Copy)]
+#[derive(Clone, Copy, PartialEq, Eq)]
 pub enum ProbeAnswer<K> {
     // Nobody replied.
     Silent,
@@ -13,7 +13,7 @@ pub enum ProbeAnswer<K> {
 }
 
 // What a fixture takes of the addresses of its family.
-#[derive(Clone, Copy)]
+#[derive(Clone, Copy, PartialEq, Eq)]
 pub struct Footprint {
     // How many.
     pub width: u16,
