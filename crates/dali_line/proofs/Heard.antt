@@ -3,7 +3,7 @@ use Rattle.std.proofs.Common.{◌≡◌, ℕ, Bool, true, false, cond, not, ◌|
 use Rattle.std.proofs.lemmas.Bool.{eq-eqb}
 use Rattle.std.proofs.lemmas.Bool.Decides.{nat_tests}
 use Rattle.std.specs.Option.{option_to_list}
-use Rattle.std.specs.List.{flat_map}
+use Rattle.std.specs.List.{flat_map, list_any}
 use Rattle.dali.proofs.Frames.{same_short}
 use Rattle.dali.specs.ShortAddress.{stored_byte, StoredAt}
 use Rattle.dali.specs.declared.short_address.ShortAddress.{ShortAddress}
@@ -11,7 +11,7 @@ use Rattle.units.specs.Received.{received, is_nothing}
 use Rattle.units.specs.declared.received.Received.{Received}
 use Rattle.units.specs.declared.received.Received.TheVariants.{Nothing, One, Several}
 use Rattle.units.specs.declared.unit.Unit.{Unit}
-use Rattle.dali_line.specs.Controller.{any_unit, told}
+use Rattle.dali_line.specs.Controller.{told}
 
 joined_map : {X Y A : Type 0} (give : Y → List A) (f : X → Y) (xs : List X) → flat_map give (map f xs) ≡ flat_map (λ x. give (f x)) xs
 joined_map give f [] = refl
@@ -43,12 +43,12 @@ some_received byte [] = refl
 some_received byte (another ∷ more) = refl
 
 -- Something is received exactly if one replies.
-pub any_received : (test : Unit → Bool) (give : Unit → ℕ) (us : List Unit) → not (is_nothing (received (map give (filter test us)))) ≡ any_unit test us
+pub any_received : (test : Unit → Bool) (give : Unit → ℕ) (us : List Unit) → not (is_nothing (received (map give (filter test us)))) ≡ list_any test us
 any_received test give [] = refl
 any_received test give (u ∷ us) =
     let rest = any_received test give us in
     elim (test u) as
-    (λ t. not (is_nothing (received (map give (cond t (u ∷ filter test us) (filter test us))))) ≡ (t || any_unit test us))
+    (λ t. not (is_nothing (received (map give (cond t (u ∷ filter test us) (filter test us))))) ≡ (t || list_any test us))
     [ true ↦ ap not (some_received (give u) (map give (filter test us))) | false ↦ rest ]
 
 -- The reply of a unit tells its address.
@@ -79,7 +79,12 @@ none_told (u ∷ []) give r e (inr none) = absurd (let z : ◌≡◌ {A = ℕ} 0
 none_told (u ∷ v ∷ more) give r e none = refl
 
 -- The one reply, if every unit would give the same.
-pub one_same : (us : List Unit) (same byte : ℕ) → One byte ≡ received (map (λ _. same) us) → eqb byte same ≡ is_some (told us)
-one_same [] same byte e = absurd (let z : ◌≡◌ {A = ℕ} 0 1 = cc in omega arith)
-one_same (u ∷ []) same byte e = eq-eqb byte same (cc)
-one_same (u ∷ v ∷ more) same byte e = absurd (let z : ◌≡◌ {A = ℕ} 0 1 = cc in omega arith)
+abbrev pub is_byte : ℕ → Received → Bool
+is_byte byte Nothing = false
+is_byte byte (One reply) = eqb reply byte
+is_byte byte Several = false
+
+pub same_told : (us : List Unit) (same : ℕ) → is_byte same (received (map (λ _. same) us)) ≡ is_some (told us)
+same_told [] same = refl
+same_told (u ∷ []) same = eq-eqb same same refl
+same_told (u ∷ v ∷ more) same = refl

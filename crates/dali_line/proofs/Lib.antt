@@ -1,4 +1,3 @@
-pub mod Among
 pub mod Heard
 pub mod Makings
 pub mod Probes

@@ -1,12 +1,14 @@
 -- What a probe tells of the units that are awake.
 use Rattle.std.proofs.Common.{◌≡◌, ℕ, ◌≤◌, Bool, true, false, cond, ◌||◌, eqb, leb, List, [], ◌∷◌, map, IfSome, Some, None, Option, sym, refl, ap, ◌∙◌, subst, arith}
 use Rattle.std.proofs.lemmas.Bool.{both_ways, and_parts, and_from, or_parts, or_right, eqb-true, eq-eqb, leb-true, le-leb, cond-true}
+use Rattle.std.specs.List.{list_any}
 use Rattle.std.specs.Option.{option_map}
 use Rattle.keys.specs.RandomAddress.{random_number, random_rank}
 use Rattle.keys.specs.declared.random_address.RandomAddress.{RandomAddress}
 use Rattle.keys.specs.declared.range.Range.{Range}
 use Rattle.lines.specs.Meaning.{is_awake, awake_there}
 use Rattle.lines.specs.Rules.{Probed}
+use Rattle.lines.specs.Twice.{is_among, has_twice}
 use Rattle.lines.specs.declared.answers.ProbeAnswer.{ProbeAnswer}
 use Rattle.lines.specs.declared.answers.ProbeAnswer.TheVariants.{Silent, Garbled}
 use Rattle.units.specs.State.{is_enabled}
@@ -14,9 +16,9 @@ use Rattle.units.specs.declared.unit.Unit.{Unit}
 use Rattle.dali_line.specs.Ranks.{number_le, rank_le}
 use Rattle.dali_line.specs.Tables.{unit_at_number}
 use Rattle.dali_line.specs.Calls.{probe_answer}
-use Rattle.dali_line.specs.Controller.{any_unit, compares_up_to}
+use Rattle.dali_line.specs.Controller.{compares_up_to}
 use Rattle.dali_line.specs.Meaning.{fixture_of, fitted_units, line_meaning}
-use Rattle.dali_line.specs.Table.{unit_number, is_among, has_twice, unit_at}
+use Rattle.dali_line.specs.Table.{unit_number, unit_at}
 use Rattle.dali_line.specs.declared.line.DaliLine.{DaliLine}
 
 -- A key that has a unit is among the numbers.
@@ -42,7 +44,7 @@ found_behind v u us once at = by (eqb (unit_number v) (unit_number u)) refl
     by false is = at
 
 -- If one passes a test, then one that is found at its key does.
-one_passes : (test : Unit → Bool) (us : List Unit) → has_twice (map unit_number us) ≡ false → any_unit test us ≡ true
+one_passes : (test : Unit → Bool) (us : List Unit) → has_twice (map unit_number us) ≡ false → list_any test us ≡ true
     → (u : Unit) × (unit_at us u.key ≡ Some u) × (test u ≡ true)
 one_passes test [] distinct e = absurd (both_ways _ refl e)
 one_passes test (v ∷ us) distinct e =
@@ -52,22 +54,22 @@ one_passes test (v ∷ us) distinct e =
     by : is_among (unit_number v) (map unit_number us) ≡ false
         → (t : Bool)
         → test v ≡ t
-        → (t || any_unit test us) ≡ true
-        → (any_unit test us ≡ true → (u : Unit) × (unit_at us u.key ≡ Some u) × (test u ≡ true))
+        → (t || list_any test us) ≡ true
+        → (list_any test us ≡ true → (u : Unit) × (unit_at us u.key ≡ Some u) × (test u ≡ true))
         → (u : Unit) × (unit_at (v ∷ us) u.key ≡ Some u) × (test u ≡ true)
     by once true is e rest = (v, cond-true (eqb (unit_number v) (unit_number v)) (Some v) (unit_at us v.key) (eq-eqb _ _ refl), is)
     by once false is e rest = let (u, at, passes) = rest e in (u, found_behind v u us once at, passes)
 
 -- If the unit of a key passes a test, then one does.
-passes_there : (test : Unit → Bool) (us : List Unit) (k : RandomAddress) (u : Unit) → unit_at us k ≡ Some u → test u ≡ true → any_unit test us ≡ true
+passes_there : (test : Unit → Bool) (us : List Unit) (k : RandomAddress) (u : Unit) → unit_at us k ≡ Some u → test u ≡ true → list_any test us ≡ true
 passes_there test [] k u at passes = absurd (let z : ◌≡◌ {A = ℕ} 0 1 = cc in omega arith)
 passes_there test (v ∷ us) k u at passes = by (eqb (unit_number v) (random_number k)) at (λ rest. passes_there test us k u rest passes)
   where
     by : (t : Bool) → cond t (Some v) (unit_at us k) ≡ Some u
-        → (unit_at us k ≡ Some u → any_unit test us ≡ true)
-        → any_unit test (v ∷ us) ≡ true
-    by true e rest = let is : v ≡ u = cc in ap (λ t. t || any_unit test us) (ap test is ∙ passes)
-    by false e rest = or_right (test v) (any_unit test us) (rest e)
+        → (unit_at us k ≡ Some u → list_any test us ≡ true)
+        → list_any test (v ∷ us) ≡ true
+    by true e rest = let is : v ≡ u = cc in ap (λ t. t || list_any test us) (ap test is ∙ passes)
+    by false e rest = or_right (test v) (list_any test us) (rest e)
 
 module _ (line : DaliLine) (range : Range RandomAddress) where
   -- Whether a unit that compares is awake up to the upper end.
@@ -76,23 +78,23 @@ module _ (line : DaliLine) (range : Range RandomAddress) where
       let (enabled, within) = and_parts (is_enabled u.state) (leb (unit_number u) (random_number range.hi)) passes in
       (enabled, rank_le u.key range.hi (leb-true (unit_number u) (random_number range.hi) within))
 
-  none_awake : ((k : RandomAddress) → random_rank k ≤ random_rank range.hi → is_awake (line_meaning line) k ≡ false) → any_unit (compares_up_to (random_number range.hi)) (fitted_units line) ≡ false
-  none_awake asleep = by (any_unit (compares_up_to (random_number range.hi)) (fitted_units line)) refl
+  none_awake : ((k : RandomAddress) → random_rank k ≤ random_rank range.hi → is_awake (line_meaning line) k ≡ false) → list_any (compares_up_to (random_number range.hi)) (fitted_units line) ≡ false
+  none_awake asleep = by (list_any (compares_up_to (random_number range.hi)) (fitted_units line)) refl
     where
-      by : (any : Bool) → any_unit (compares_up_to (random_number range.hi)) (fitted_units line) ≡ any → any ≡ false
+      by : (any : Bool) → list_any (compares_up_to (random_number range.hi)) (fitted_units line) ≡ any → any ≡ false
       by false e = refl
       by true e =
           let (u, at, passes) = one_passes _ (fitted_units line) line.distinct e in
           let (enabled, within) = compares u passes in
           absurd (both_ways _ (sym (ap (λ o. awake_there (option_map fixture_of o)) at) ∙ asleep u.key within) enabled)
 
-  one_awake : (k : RandomAddress) → random_rank k ≤ random_rank range.hi → is_awake (line_meaning line) k ≡ true → any_unit (compares_up_to (random_number range.hi)) (fitted_units line) ≡ true
+  one_awake : (k : RandomAddress) → random_rank k ≤ random_rank range.hi → is_awake (line_meaning line) k ≡ true → list_any (compares_up_to (random_number range.hi)) (fitted_units line) ≡ true
   one_awake k within awake = by (unit_at (fitted_units line) k) refl awake (unit_at_number (fitted_units line) k)
     where
       by : (o : Option Unit) → unit_at (fitted_units line) k ≡ o
           → awake_there (option_map fixture_of o) ≡ true
           → IfSome o (λ u. eqb (unit_number u) (random_number k) ≡ true)
-          → any_unit (compares_up_to (random_number range.hi)) (fitted_units line) ≡ true
+          → list_any (compares_up_to (random_number range.hi)) (fitted_units line) ≡ true
       by None at awake number = absurd (both_ways _ refl awake)
       by (Some u) at awake number =
           let below : unit_number u ≤ random_number range.hi = omega (arith, number_le k range.hi within, eqb-true (unit_number u) (random_number k) number) in

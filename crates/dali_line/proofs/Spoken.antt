@@ -1,8 +1,8 @@
 -- Frames sent one after the other: what becomes of the units and of the bus.
-use Rattle.std.proofs.Common.{◌≡◌, ℕ, ◌+◌, ◌%◌, ◌<◌, Bool, true, false, cond, not, ◌&&◌, eqb, leb, List, [], ◌∷◌, map, length, get_or, drop, Some, None, filter, Option, sym, refl, ap, ◌∙◌, map-id, arith}
+use Rattle.std.proofs.Common.{◌≡◌, ℕ, ◌%◌, Bool, true, false, cond, not, ◌&&◌, eqb, leb, List, [], ◌∷◌, map, Some, None, filter, Option, sym, refl, ap, ◌∙◌, map-id, arith}
 use mathlib.Core.List.{map-map}
 use mathlib.Core.Path.{subst₃}
-use Rattle.std.proofs.lemmas.List.{at_drop_more}
+use Rattle.std.specs.List.{list_any}
 use Rattle.keys.specs.RandomAddress.{random_number}
 use Rattle.keys.specs.declared.random_address.RandomAddress.{RandomAddress}
 use Rattle.dali.specs.Search.{search_frames}
@@ -20,7 +20,7 @@ use Rattle.units.specs.declared.received.Received.{Received}
 use Rattle.units.specs.declared.state.State.{State}
 use Rattle.units.specs.declared.state.State.TheVariants.{Disabled, Enabled, Withdrawn}
 use Rattle.units.specs.declared.unit.Unit.{Unit}
-use Rattle.dali_line.specs.Controller.{units_after_all, bus_after_all, said_to, seeking, any_unit, compares_up_to, selected_at, withdrawn_at, addressed_at}
+use Rattle.dali_line.specs.Controller.{units_after_all, said_to, seeking, compares_up_to, selected_at, withdrawn_at, addressed_at}
 use Rattle.dali_line.proofs.Heard.{address_byte, replies_kept, replies_changed, any_received}
 use Rattle.dali_line.specs.Table.{unit_number}
 
@@ -29,19 +29,6 @@ sent_at : {us vs us' : List Unit} {bus b bus' : Bus} {frame f : Frame} {heard : 
     → Sent us bus frame heard us' bus'
     → Sent vs b f heard us' bus'
 sent_at {us' = us'} {bus' = bus'} {heard = heard} e d g s = subst₃ (λ x y z. Sent x y z heard us' bus') e d g s
-
--- One frame more of several.
-pub more_sent : (frames : List Frame) (i : ℕ) {frame : Frame} {us us' : List Unit} {bus bus' : Bus} {heard : Received} → i < length frames
-    → frame ≡ get_or frames i frame
-    → Sent us bus frame heard us' bus'
-    → (units_after_all bus' (drop (i + 1) frames) us' ≡ units_after_all bus (drop i frames) us)
-    × (bus_after_all bus' (drop (i + 1) frames) ≡ bus_after_all bus (drop i frames))
-more_sent frames i {frame} {us} {bus = bus} within is s =
-    let left = drop (i + 1) frames in
-    let t = sent_at refl refl is s in (
-      (λ j. units_after_all (t.bus_then j) left (t.units_then j)) ∙ sym (at_drop_more (λ fs. units_after_all bus fs us) frames i frame within),
-      ap (λ b. bus_after_all b left) t.bus_then ∙ sym (at_drop_more (bus_after_all bus) frames i frame within),
-    )
 
 -- The three frames of a search address change no unit.
 pub seek_sent : (bus : Bus) (n : ℕ) (us : List Unit) → units_after_all bus (search_frames n) us ≡ us
@@ -107,7 +94,7 @@ low_frame key = SearchLow (random_number key % 256)
 module _ (key : RandomAddress) {us us1 : List Unit} {bus1 : Bus} (units_then : us1 ≡ us) (bus_then : bus1 ≡ seeking (random_number key)) where
   -- A900.
   pub compare_sent : {us2 : List Unit} {bus2 : Bus} {r : Received} → Sent us1 bus1 Compare r us2 bus2
-      → (not (is_nothing r) ≡ any_unit (compares_up_to (random_number key)) us)
+      → (not (is_nothing r) ≡ list_any (compares_up_to (random_number key)) us)
       × (us2 ≡ us)
       × (bus2 ≡ said_to (random_number key) Compare)
   compare_sent s =
@@ -132,7 +119,7 @@ module _ (key : RandomAddress) {us us1 : List Unit} {bus1 : Bus} (units_then : u
   pub withdraw_sent : {us2 us3 : List Unit} {bus2 bus3 : Bus} {r1 r2 : Received}
       → Sent us1 bus1 Withdraw r1 us2 bus2
       → Sent us2 bus2 QueryShortAddress r2 us3 bus3
-      → (not (is_nothing r2) ≡ any_unit (selected_at (random_number key)) us)
+      → (not (is_nothing r2) ≡ list_any (selected_at (random_number key)) us)
       × (us3 ≡ map (withdrawn_at (random_number key)) us)
       × (bus3 ≡ said_to (random_number key) QueryShortAddress)
   withdraw_sent s1 s2 =

@@ -1,5 +1,5 @@
 -- What a controller makes of units and their bus.
-use Rattle.std.specs.Prelude.{ℕ, ◌%◌, Bool, false, cond, not, ◌&&◌, ◌||◌, List, [], ◌∷◌, map, Some, None, Option, ◌==◌, nat_le}
+use Rattle.std.specs.Prelude.{◌≡◌, ℕ, ◌%◌, Bool, cond, not, ◌&&◌, List, [], ◌∷◌, map, Some, None, Option, ◌==◌, nat_le}
 use Rattle.dali.specs.declared.frame.Frame.{Frame}
 use Rattle.dali.specs.declared.frame.Frame.TheVariants.{SearchLow}
 use Rattle.dali.specs.declared.short_address.ShortAddress.{ShortAddress}
@@ -11,6 +11,12 @@ use Rattle.units.specs.declared.bus.Bus.{Bus}
 use Rattle.units.specs.declared.state.State.TheVariants.{Withdrawn}
 use Rattle.units.specs.declared.unit.Unit.{Unit}
 use Rattle.dali_line.specs.Table.{unit_number}
+use Rattle.dali_line.specs.declared.wire.Wire.{Wire}
+
+-- The units on a wire are now these, and their bus is this one.
+pub record Becomes (wire : Wire) (units : List Unit) (bus : Bus) : Type 0 where
+  pub units_then : wire.units.items ≡ units
+  pub bus_then : wire.bus ≡ bus
 
 -- Frames sent one after the other: each finds units and bus as the one before left them.
 abbrev pub units_after_all : Bus → List Frame → List Unit → List Unit
@@ -32,10 +38,6 @@ said_to n frame = record { search = search_at n; before = Some frame }
 -- The bus after the three frames of a search address.
 abbrev pub seeking : ℕ → Bus
 seeking n = said_to n (SearchLow (n % 256))
-
-abbrev pub any_unit : (Unit → Bool) → List Unit → Bool
-any_unit test [] = false
-any_unit test (u ∷ us) = test u || any_unit test us
 
 -- An enabled unit at or below a number.
 abbrev pub compares_up_to : ℕ → Unit → Bool

@@ -1,21 +1,19 @@
 -- How a line is made.
-use Rattle.std.specs.Prelude.{◌≡◌, ℕ, Bool, true, false, cond, not, ◌&&◌, ◌||◌, List, [], ◌∷◌, ◌++◌, map, length, drop, replicate, Some, None, Ok, Err, Option, Result, ◌==◌, nat_lt}
-use Rattle.std.proofs.Common.{lit<}
+use Rattle.std.specs.Prelude.{◌≡◌, ℕ, Bool, true, false, cond, not, ◌||◌, List, map, length, Some, None, Ok, Err, Option, Result, ◌==◌, nat_lt}
+use Rattle.std.specs.List.{list_all}
+use Rattle.arrayvec.specs.ArrayVec.{ArrayVec}
 use Rattle.refusals.specs.declared.Refusal.{Refusal}
 use Rattle.refusals.specs.declared.Refusal.TheVariants.{Malformed, AboveLimit, KeyTwice}
 use Rattle.keys.specs.KeyNumbers.{is_random_number}
 use Rattle.keys.specs.RandomAddress.{random_number}
 use Rattle.keys.specs.declared.random_address.RandomAddress.{RandomAddress}
 use Rattle.lines.specs.Meaning.{Meaning}
+use Rattle.lines.specs.Twice.{is_among, has_twice}
 use Rattle.units.specs.Bus.{fresh_bus}
 use Rattle.units.specs.Unit.{fresh_unit}
 use Rattle.units.specs.declared.unit.Unit.{Unit}
-use Rattle.dali_line.specs.Table.{is_among, has_twice}
+use Rattle.dali_line.specs.Meaning.{fitted_units}
 use Rattle.dali_line.specs.declared.line.DaliLine.{DaliLine}
-
-abbrev pub every : (ℕ → Bool) → List ℕ → Bool
-every test [] = true
-every test (n ∷ ns) = test n && every test ns
 
 -- A unit takes exactly one address.
 abbrev pub is_one : ℕ → Bool
@@ -24,7 +22,7 @@ is_one width = width == 1
 -- More than 64 units, a mode above 0, a width other than 1, or a number that is no key.
 abbrev pub above_limit : List ℕ → List ℕ → ℕ → Bool
 above_limit numbers widths mode =
-    nat_lt 64 (length numbers) || (nat_lt 0 mode || (not (every is_one widths) || not (every is_random_number numbers)))
+    nat_lt 64 (length numbers) || (nat_lt 0 mode || (not (list_all is_one widths) || not (list_all is_random_number numbers)))
 
 -- The refusal that the lists and the mode earn: first unequal lists, then a limit, then a key twice.
 abbrev pub making_refusal : List ℕ → List ℕ → ℕ → Option Refusal
@@ -33,21 +31,19 @@ making_refusal numbers widths mode =
     (cond (above_limit numbers widths mode) (Some AboveLimit) (cond (has_twice numbers) (Some KeyTwice) None))
     (Some Malformed)
 
--- What stands in a place where no unit is fitted.
-abbrev pub empty_unit : Unit
-empty_unit = fresh_unit (record { value = 0; narrow = lit< tt })
+-- Fresh units whose keys have these numbers, in their order.
+abbrev pub FittedInto : List ℕ → List Unit → Type 0
+FittedInto numbers units = (keys : List RandomAddress) × (map random_number keys ≡ numbers) × (units ≡ map fresh_unit keys)
 
--- Fresh units whose keys have these numbers, in their order, in the first places of a table.
-abbrev pub FittedInto : List Unit → List ℕ → List Unit → Type 0
-FittedInto before numbers after = (keys : List RandomAddress)
-    × (map random_number keys ≡ numbers)
-    × (after ≡ map fresh_unit keys ++ drop (length numbers) before)
+-- r is a table of such units, if each of the numbers is one of a key.
+abbrev pub Fitted : List ℕ → Option (ArrayVec Unit) → Type 0
+Fitted numbers None = list_all is_random_number numbers ≡ false
+Fitted numbers (Some units) = (list_all is_random_number numbers ≡ true) × FittedInto numbers units.items
 
 -- A line as it is made: shut, with fresh units and a fresh bus.
 pub record Fresh (numbers : List ℕ) (line : DaliLine) : Type 0 where
-  pub units_fresh : FittedInto (replicate 64 empty_unit) numbers line.units
-  pub count_of_units : line.count ≡ length numbers
-  pub bus_fresh : line.bus ≡ fresh_bus
+  pub units_fresh : FittedInto numbers (fitted_units line)
+  pub bus_fresh : line.wire.bus ≡ fresh_bus
   pub shut : line.live ≡ false
 
 -- What such a line means: it is shut, and each of the keys is fitted, asleep and without an address.

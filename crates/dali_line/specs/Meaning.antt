@@ -1,5 +1,5 @@
 -- What the line means, read off its table.
-use Rattle.std.specs.Prelude.{List, take, Option}
+use Rattle.std.specs.Prelude.{List, Option}
 use Rattle.std.specs.Option.{option_map}
 use Rattle.keys.specs.declared.address.Address.{Address}
 use Rattle.keys.specs.declared.random_address.RandomAddress.{RandomAddress}
@@ -23,7 +23,7 @@ abbrev pub footprint_at : Option ShortAddress → Footprint
 footprint_at address = record { width = 1; address = option_map slot_of address }
 
 abbrev pub fitted_units : DaliLine → List Unit
-fitted_units line = take line.count line.units
+fitted_units line = line.wire.units.items
 
 abbrev pub line_meaning : DaliLine → Meaning RandomAddress
 line_meaning line = record { live = line.live; at = λ k. option_map fixture_of (unit_at (fitted_units line) k) }

@@ -1,10 +1,11 @@
 -- What the functions of the line leave of its meaning.
-use Rattle.std.specs.Prelude.{◌≡◌, ℕ, ◌-◌, Bool, true, false, cond, not, ◌&&◌, ◌||◌, List, [], ◌∷◌, take, is_some, IfSome, Some, None, filter, Option, ◌==◌, nat_eq}
+use Rattle.std.specs.Prelude.{◌≡◌, ℕ, Bool, true, false, cond, not, ◌&&◌, ◌||◌, List, [], ◌∷◌, is_some, IfSome, Some, None, filter, Option, ◌==◌, nat_eq}
 use Rattle.std.proofs.Math.Path.{refl, sym, ap}
 use Rattle.std.proofs.Common.{◌∙◌, arith}
-use Rattle.std.proofs.Math.Nat.{sub-zero}
+use Rattle.std.proofs.Math.Bool.{and-true}
 use Rattle.std.proofs.lemmas.Bool.{not-true, both_ways, eqb-true}
 use Rattle.std.proofs.lemmas.Bool.Decides.{nat_tests}
+use Rattle.std.specs.List.{list_any}
 use Rattle.std.specs.Option.{option_map, option_to_list}
 use Rattle.keys.specs.Address.{in_family}
 use Rattle.keys.specs.RandomAddress.{random_number, random_rank}
@@ -20,9 +21,9 @@ use Rattle.units.specs.declared.state.State.TheVariants.{Disabled, Enabled, With
 use Rattle.units.specs.declared.unit.Unit.{Unit}
 use Rattle.dali_line.specs.Changes.{withdrawn_shut, withdrawn_open, withdrawn_keeps, addressed_shut, addressed_open, addressed_keeps}
 use Rattle.dali_line.specs.Ranks.{same_tests, same_key}
-use Rattle.dali_line.specs.Tables.{take-changed, unit_at_map, unit_at_number, unit_at_fits, selected_are}
+use Rattle.dali_line.specs.Tables.{unit_at_map, unit_at_number, unit_at_fits, selected_are}
 use Rattle.dali_line.specs.Calls.{changed}
-use Rattle.dali_line.specs.Controller.{any_unit, selected_at, withdrawn_at, addressed_at, told}
+use Rattle.dali_line.specs.Controller.{selected_at, withdrawn_at, addressed_at, told}
 use Rattle.dali_line.specs.Meaning.{fixture_of, footprint_at, slot_of, fitted_units, line_meaning}
 use Rattle.dali_line.specs.Table.{unit_number, fits, unit_at}
 use Rattle.dali_line.specs.declared.line.DaliLine.{DaliLine}
@@ -35,34 +36,31 @@ mapped_mapped g f (Some x) = refl
 same_meaning : {K : Type 0} (m n : Meaning K) → m.live ≡ n.live → ((k : K) → m.at k ≡ n.at k) → m ≡ n
 same_meaning m n live at = λ i. record { live = live i; at = λ k. at k i }
 
--- What a line with these places means, if it has as many fitted units as another.
-abbrev meaning_with : DaliLine → Bool → List Unit → Meaning RandomAddress
-meaning_with line live units = record { live = live; at = λ k. option_map fixture_of (unit_at (take line.count units) k) }
+-- What a line with these units means.
+abbrev meaning_with : Bool → List Unit → Meaning RandomAddress
+meaning_with live units = record { live = live; at = λ k. option_map fixture_of (unit_at units k) }
 
 -- What is at a key once every fitted unit is changed.
 at_changed : (line : DaliLine) (units : List Unit) (f : Unit → Unit) → ((u : Unit) → (f u).key ≡ u.key)
     → units ≡ changed f line
     → (k : RandomAddress)
-    → option_map fixture_of (unit_at (take line.count units) k) ≡ option_map (λ u. fixture_of (f u)) (unit_at (fitted_units line) k)
+    → option_map fixture_of (unit_at units k) ≡ option_map (λ u. fixture_of (f u)) (unit_at (fitted_units line) k)
 at_changed line units f keeps e k =
-    ap (λ us. option_map fixture_of (unit_at us k)) (ap (take line.count) e ∙ take-changed f line.count line.units)
+    ap (λ us. option_map fixture_of (unit_at us k)) e
     ∙ ap (option_map fixture_of) (unit_at_map f keeps (fitted_units line) k)
     ∙ mapped_mapped fixture_of f (unit_at (fitted_units line) k)
 
 module _ (line : DaliLine) (units : List Unit) where
-  pub means_same : units ≡ line.units → meaning_with line line.live units ≡ line_meaning line
-  means_same e = ap (meaning_with line line.live) e
-
-  pub means_roused : units ≡ changed (with_state Enabled) line → meaning_with line true units ≡ roused (line_meaning line)
+  pub means_roused : units ≡ changed (with_state Enabled) line → meaning_with true units ≡ roused (line_meaning line)
   unfolding roused
   means_roused e =
-      same_meaning (meaning_with line true units) (roused (line_meaning line)) refl
+      same_meaning (meaning_with true units) (roused (line_meaning line)) refl
       (λ k. at_changed line units (with_state Enabled) (λ u. refl) e k ∙ sym (mapped_mapped (with_awake true) fixture_of (unit_at (fitted_units line) k)))
 
-  pub means_rested : units ≡ changed (with_state Disabled) line → meaning_with line false units ≡ rested (line_meaning line)
+  pub means_rested : units ≡ changed (with_state Disabled) line → meaning_with false units ≡ rested (line_meaning line)
   unfolding rested
   means_rested e =
-      same_meaning (meaning_with line false units) (rested (line_meaning line)) refl
+      same_meaning (meaning_with false units) (rested (line_meaning line)) refl
       (λ k. at_changed line units (with_state Disabled) (λ u. refl) e k ∙ sym (mapped_mapped (with_awake false) fixture_of (unit_at (fitted_units line) k)))
 
 -- A change of the unit of one key, which leaves disabled units as they are.
@@ -102,12 +100,12 @@ module _
 
     one_changed : (line : DaliLine) (units : List Unit) → ((u : Unit) → (f u).key ≡ u.key)
         → units ≡ changed f line
-        → meaning_with line line.live units
+        → meaning_with line.live units
         ≡ cond (line.live && is_some (unit_at (fitted_units line) key)) (changed_at random_rank key g (line_meaning line)) (line_meaning line)
     one_changed line units keeps e =
         let us = fitted_units line in
         let m = line_meaning line in
-        let after = meaning_with line line.live units in
+        let after = meaning_with line.live units in
         let there = is_some (unit_at us key) in
         let each : (k : RandomAddress) → after.at k ≡ cond (line.live && there) ((changed_at random_rank key g m).at k) (m.at k) =
         λ k.
@@ -127,7 +125,7 @@ some_mapped f (Some x) = refl
 some_mapped f None = refl
 
 pub means_hushed : (key : RandomAddress) (line : DaliLine) (units : List Unit) → units ≡ changed (withdrawn_at (random_number key)) line
-    → meaning_with line line.live units ≡ hushed random_rank (line_meaning line) key
+    → meaning_with line.live units ≡ hushed random_rank (line_meaning line) key
 unfolding hushed
 means_hushed key line units e =
     let n = random_number key in
@@ -143,17 +141,13 @@ wide_there_is : (o : Option Unit) → wide_there (option_map fixture_of o) ≡ i
 wide_there_is (Some u) = refl
 wide_there_is None = refl
 
-and_true : (b : Bool) → (b && true) ≡ b
-and_true true = refl
-and_true false = refl
-
 module _ (key : RandomAddress) (address : Address) (line : DaliLine) where
   -- Whether the address is taken, for one that can be sent.
   pub set_answer_is : (a : ShortAddress) → a.value ≡ address.slot → set_answer 0 64 (line_meaning line) key address ≡ (line.live && is_some (unit_at (fitted_units line) key))
   set_answer_is a e =
       let o = unit_at (fitted_units line) key in
       ap (λ t. line.live && (wide_there (option_map fixture_of o) && t)) (short_in_family a address e)
-      ∙ ap (λ t. line.live && t) (and_true _ ∙ wide_there_is o)
+      ∙ ap (λ t. line.live && t) (and-true _ ∙ wide_there_is o)
 
   -- No other address is taken.
   pub set_answer_no : in_family 0 64 address ≡ false → set_answer 0 64 (line_meaning line) key address ≡ false
@@ -166,7 +160,7 @@ module _ (key : RandomAddress) (address : Address) (line : DaliLine) where
 
   pub means_addressed : (units : List Unit) (a : ShortAddress) → a.value ≡ address.slot
       → units ≡ changed (addressed_at (random_number key) a) line
-      → meaning_with line line.live units ≡ addressed random_rank 0 64 (line_meaning line) key address
+      → meaning_with line.live units ≡ addressed random_rank 0 64 (line_meaning line) key address
   unfolding addressed
   means_addressed units a slot e =
       let n = random_number key in
@@ -179,38 +173,29 @@ not_empty : List Unit → Bool
 not_empty [] = false
 not_empty (u ∷ us) = true
 
-any_kept : (test : Unit → Bool) (us : List Unit) → any_unit test us ≡ not_empty (filter test us)
+any_kept : (test : Unit → Bool) (us : List Unit) → list_any test us ≡ not_empty (filter test us)
 unfolding not_empty
 any_kept test [] = refl
 any_kept test (u ∷ us) =
     let rest = any_kept test us in
     elim (test u) as
-    (λ t. (t || any_unit test us) ≡ not_empty (cond t (u ∷ filter test us) (filter test us)))
+    (λ t. (t || list_any test us) ≡ not_empty (cond t (u ∷ filter test us) (filter test us)))
     [ true ↦ refl | false ↦ rest ]
 
--- The units that a function of the line lends.
-abbrev pub lent_units : DaliLine → List Unit
-lent_units line = take (line.count - 0) line.units
-
-pub lent_are : (line : DaliLine) → lent_units line ≡ fitted_units line
-lent_are line = ap (λ n. take n line.units) (sub-zero line.count)
-
 module _ (line : DaliLine) (key : RandomAddress) where
-  selected : filter (selected_at (random_number key)) (lent_units line) ≡ cond line.live (option_to_list (unit_at (fitted_units line) key)) []
-  selected =
-      ap (filter (selected_at (random_number key))) (lent_are line)
-      ∙ selected_are line.live key (fitted_units line) line.distinct line.states
+  selected : filter (selected_at (random_number key)) (fitted_units line) ≡ cond line.live (option_to_list (unit_at (fitted_units line) key)) []
+  selected = selected_are line.live key (fitted_units line) line.distinct line.states
 
-  pub hush_answer_is : any_unit (selected_at (random_number key)) (lent_units line) ≡ hush_answer (line_meaning line) key
+  pub hush_answer_is : list_any (selected_at (random_number key)) (fitted_units line) ≡ hush_answer (line_meaning line) key
   unfolding not_empty
-  hush_answer_is = any_kept _ (lent_units line) ∙ ap not_empty selected ∙ by line.live (unit_at (fitted_units line) key)
+  hush_answer_is = any_kept _ (fitted_units line) ∙ ap not_empty selected ∙ by line.live (unit_at (fitted_units line) key)
     where
       by : (live : Bool) (o : Option Unit) → not_empty (cond live (option_to_list o) []) ≡ (live && is_some (option_map fixture_of o))
       by true (Some u) = refl
       by true None = refl
       by false o = refl
 
-  pub query_answer_is : (address : Option (Option ShortAddress)) → address ≡ told (filter (selected_at (random_number key)) (lent_units line))
+  pub query_answer_is : (address : Option (Option ShortAddress)) → address ≡ told (filter (selected_at (random_number key)) (fitted_units line))
       → option_map footprint_at address ≡ query_answer (line_meaning line) key
   query_answer_is address e = ap (option_map footprint_at) (e ∙ ap told selected) ∙ by line.live (unit_at (fitted_units line) key)
     where
@@ -219,7 +204,7 @@ module _ (line : DaliLine) (key : RandomAddress) where
       by true None = refl
       by false o = refl
 
-  pub one_told_is : is_some (told (filter (selected_at (random_number key)) (lent_units line))) ≡ (line.live && is_some (unit_at (fitted_units line) key))
+  pub one_told_is : is_some (told (filter (selected_at (random_number key)) (fitted_units line))) ≡ (line.live && is_some (unit_at (fitted_units line) key))
   one_told_is = ap (λ us. is_some (told us)) selected ∙ by line.live (unit_at (fitted_units line) key)
     where
       by : (live : Bool) (o : Option Unit) → is_some (told (cond live (option_to_list o) [])) ≡ (live && is_some o)

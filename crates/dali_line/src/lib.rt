@@ -2,5 +2,5 @@
 
 #![tactic(auto)]
 
-mod controller;
 pub mod line;
+mod wire;

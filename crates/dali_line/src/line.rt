@@ -1,24 +1,20 @@
 // The DALI line.
-ghost use Rattle.std.specs.Prelude.{◌≡◌, ◌≤◌, true, false, map, take};
-ghost use Rattle.dali_line.specs.Table.{unit_number, has_twice, all_fit};
+ghost use Rattle.std.specs.Prelude.{◌≡◌, true, false, map};
+ghost use Rattle.lines.specs.Twice.{has_twice};
+ghost use Rattle.dali_line.specs.Table.{unit_number, all_fit};
 
-use units::bus::Bus;
-use units::unit::Unit;
+use crate::wire::Wire;
 
 // How many units a line has at most.
 pub const PLACES: usize = 64;
 
-// The first `count` places of the table are fitted. Whether the line is live is a flag of its own, since a line without
-// units has none to show it.
+// Whether the line is live is a flag of its own, since a line without units has none to show it.
 #[derive(Drop)]
 pub struct DaliLine {
-    units: [Unit; PLACES],
-    count: usize,
-    bus: Bus,
+    wire: Wire,
     live: bool,
-    ghost within: { count ≤ 64 },
-    ghost distinct: { has_twice (map unit_number (take count units)) ≡ false },
-    ghost states: { all_fit live (take count units) ≡ true },
+    ghost distinct: { has_twice (map unit_number wire.units.items) ≡ false },
+    ghost states: { all_fit live wire.units.items ≡ true },
 }
 
 pub mod calls;

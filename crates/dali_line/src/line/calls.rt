@@ -6,7 +6,6 @@ ghost use Rattle.dali_line.specs.Calls.{LeftByRouse, LeftByRest, LeftByProbe, pr
 ghost use Rattle.dali_line.specs.Meaning.{footprint_at, line_meaning};
 ghost use Rattle.dali_line.specs.Meanings;
 
-use crate::controller::{compare, enable, program, query_address, withdraw};
 use crate::line::DaliLine;
 use dali::frame::Frame;
 use dali::short_address::ShortAddress;
@@ -15,7 +14,6 @@ use keys::random_address::RandomAddress;
 use keys::range::Range;
 use lines::answers::{Footprint, ProbeAnswer};
 use lines::line::Line;
-use units::send::send;
 
 impl Line for DaliLine {
     type Key = RandomAddress;
@@ -34,7 +32,7 @@ impl Line for DaliLine {
         ensures after { line_meaning self.new ≡ roused (line_meaning self.old) }
         ensures table_and_bus_after { LeftByRouse self.old self.new }
     {
-        enable(&mut self.units[0..self.count], &mut self.bus);
+        self.wire.enable();
         self.live = true;
     }
 
@@ -42,11 +40,7 @@ impl Line for DaliLine {
         ensures after { line_meaning self.new ≡ rested (line_meaning self.old) }
         ensures table_and_bus_after { LeftByRest self.old self.new }
     {
-        send(
-            &mut self.units[0..self.count],
-            &mut self.bus,
-            Frame::Terminate,
-        );
+        self.wire.send(Frame::Terminate);
         self.live = false;
     }
 
@@ -57,7 +51,7 @@ impl Line for DaliLine {
         ensures garbled_exactly_if_an_enabled_unit_is_at_or_below_hi { result ≡ probe_answer self.old range }
         ensures table_and_bus_after { LeftByProbe range self.old self.new }
     {
-        if compare(&mut self.units[0..self.count], &mut self.bus, range.hi) {
+        if self.wire.compare(range.hi) {
             ProbeAnswer::Garbled
         } else {
             ProbeAnswer::Silent
@@ -69,7 +63,7 @@ impl Line for DaliLine {
         ensures after { line_meaning self.new ≡ hushed random_rank (line_meaning self.old) key }
         ensures table_and_bus_after { LeftByHush key self.old self.new }
     {
-        withdraw(&mut self.units[0..self.count], &mut self.bus, key)
+        self.wire.withdraw(key)
     }
 
     fn query(&mut self, key: RandomAddress) -> Option<Footprint>
@@ -77,10 +71,7 @@ impl Line for DaliLine {
         ensures answer { result ≡ query_answer (line_meaning self.old) key }
         ensures table_and_bus_after { LeftByQuery key self.old self.new }
     {
-        match query_address(&mut self.units[0..self.count], &mut self.bus, key) {
-            Some(address) => Some(footprint(address)),
-            None => None,
-        }
+        self.wire.query_address(key).map(footprint)
     }
 
     // An address outside the family is not sent: B7 with 127 in the place of the address would delete it.
@@ -90,7 +81,7 @@ impl Line for DaliLine {
         ensures table_and_bus_after { LeftBySet key address self.old self.new }
     {
         match ShortAddress::from_address(address) {
-            Some(short) => program(&mut self.units[0..self.count], &mut self.bus, key, short),
+            Some(short) => self.wire.program(key, short),
             None => false,
         }
     }
@@ -100,11 +91,8 @@ impl Line for DaliLine {
 fn footprint(address: Option<ShortAddress>) -> Footprint
     ensures { result ≡ footprint_at address }
 {
-    let address = match address {
-        Some(short) => Some(Address {
-            slot: u16::from(short.value),
-        }),
-        None => None,
-    };
+    let address = address.map(|short| Address {
+        slot: u16::from(short.value),
+    });
     Footprint { width: 1, address }
 }

@@ -1,36 +1,18 @@
-use Rattle.std.proofs.Common.{◌≡◌, [], ◌∷◌, ◌++◌, map, length, get_or, drop, set, None, ap, ◌∙◌, arith}
-use Rattle.std.proofs.lemmas.List.{take_all}
-use Rattle.std.proofs.lemmas.Bool.{both_ways}
+use Rattle.std.proofs.Common.{Some, sym, ◌∙◌}
+use Rattle.std.specs.List.{list_all}
+use Rattle.std.proofs.lemmas.List.{at_drop_more}
 use Rattle.keys.specs.KeyNumbers.{is_random_number}
-use Rattle.units.specs.Unit.{fresh_unit}
-use Rattle.dali_line.proofs.Makings.{numbered_is, every_at, numbers_more, units_more}
+use Rattle.octets.proofs.Every.{first_has}
+use Rattle.dali_line.proofs.Makings.{numbered_is, fitted_more}
 use Rattle.dali_line.proofs.line.making.fit.Goals as goal
 
-pub unreachable-requires : goal.unreachable-requires
-unreachable-requires c =
-    both_ways _ (numbered_is (get_or c.args.numbers.now c.loop-i.i 0) None c.in-None.ensures) (every_at is_random_number c.args.numbers.now c.loop-i.i c.loop-i-test.true c.requires.keys)
-
-pub loop-i-preserved : goal.loop-i-preserved
-loop-i-preserved c =
-    let before = c.args.units.now in
-    let units = c.loop-i.units in
+pub loop-number-preserved : goal.loop-number-preserved
+loop-number-preserved c =
+    let i = c.loop-number.number-index in
     let numbers = c.args.numbers.now in
-    let i = c.loop-i.i in
-    let key = c.in-Some.key in
-    let within = c.loop-i-test.true in
-    let (keys, are, stand) = c.loop-i.invariant in (
-      keys ++ key ∷ [],
-      numbers_more before units numbers i keys key within are c.in-Some.ensures,
-      ap (set units i) c.fresh.ensures ∙ units_more before units numbers i keys key within (omega arith) are stand,
-    )
-
-pub returns : goal.returns
-returns c =
-    let before = c.args.units.now in
-    let numbers = c.args.numbers.now in
-    let (keys, are, stand) = c.loop-i.invariant in
-    let end : c.loop-i.i ≡ length numbers = omega arith in (
-      keys,
-      are ∙ take_all c.loop-i.i numbers c.loop-i-test.false,
-      stand ∙ ap (λ n. map fresh_unit keys ++ drop n before) end,
+    let key = c.in_ok-from_number.field-0 in
+    let within = c.loop-number-test.true in
+    let (fitted, left) = c.loop-number.invariant in (
+      fitted_more numbers c.loop-number.units.items _ c.fresh.result i key within fitted c.in_ok-from_number.ensures c.fresh.ensures c.push.ensures.items,
+      first_has _ _ _ (sym left ∙ at_drop_more (list_all is_random_number) numbers i 0 within) (numbered_is _ (Some key) c.in_ok-from_number.ensures),
     )

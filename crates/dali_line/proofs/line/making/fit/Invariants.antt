@@ -1,9 +1,11 @@
-use Rattle.std.proofs.Common.{◌≡◌, List, ◌++◌, map, take, drop}
-use Rattle.keys.specs.RandomAddress.{random_number}
-use Rattle.keys.specs.declared.random_address.RandomAddress.{RandomAddress}
-use Rattle.units.specs.Unit.{fresh_unit}
+use Rattle.std.proofs.Common.{◌≡◌, take, drop}
+use Rattle.std.specs.List.{list_all}
+use Rattle.keys.specs.KeyNumbers.{is_random_number}
+use Rattle.dali_line.specs.Making.{FittedInto}
 use Rattle.dali_line.proofs.line.making.fit.Given as goal
 
--- The places before i have fresh units of the keys before i, and the others are as they were.
-abbrev pub invariant-loop-i : goal.invariant-loop-i
-invariant-loop-i l = (keys : List RandomAddress) × (map random_number keys ≡ take l.i l.numbers) × (l.units ≡ map fresh_unit keys ++ drop l.i l.initial.units)
+-- The numbers so far have their units, and those that are left decide whether all have one.
+abbrev pub invariant-loop-number : goal.invariant-loop-number
+invariant-loop-number l =
+    FittedInto (take l.number-index l.numbers) l.units.items
+    × (list_all is_random_number (drop l.number-index l.numbers) ≡ list_all is_random_number l.numbers)

@@ -1,4 +1,4 @@
-use Rattle.std.proofs.Common.{sym, refl, ap, ◌∙◌}
+use Rattle.std.proofs.Common.{refl, sym, ap, ◌∙◌}
 use Rattle.std.proofs.lemmas.Bool.{both_ways}
 use Rattle.keys.specs.RandomAddress.{random_number}
 use Rattle.dali.proofs.Frames.{same_short}
@@ -6,35 +6,27 @@ use Rattle.dali_line.specs.Calls.{changed}
 use Rattle.dali_line.specs.Controller.{addressed_at}
 use Rattle.dali_line.specs.Meanings.{means_addressed, means_not_addressed, one_told_is, short_in_family, set_answer_is, set_answer_no}
 use Rattle.dali_line.proofs.Standing.{stands_addressed}
-use Rattle.dali_line.specs.Tables.{lent_changed}
 use Rattle.dali_line.proofs.line.calls.DaliLineLine.set.Goals as goal
 
 pub invariant_of-self : goal.invariant_of-self
 invariant_of-self c =
-    let line = c.args.self.now in
-    let n = random_number c.args.key in
-    let a = c.in-Some.short in
-    let units = lent_changed (addressed_at n a) line.count line.units c.program.new.units c.program.ensures.units_after in
-    let (distinct, states) = stands_addressed line _ n a units in
-    record { within = line.within; distinct = distinct; states = states }
+    let (distinct, states) = stands_addressed c.args.self.now _ (random_number c.args.key) c.in-Some.short c.program.ensures.after.units_then in
+    record { distinct = distinct; states = states }
 
 pub returns-in-Some : goal.returns-in-Some
 returns-in-Some c =
     let line = c.args.self.now in
     let key = c.args.key in
-    let n = random_number key in
     let a = c.in-Some.short in
     let slot = c.in-Some.ensures in
-    let units = lent_changed (addressed_at n a) line.count line.units c.program.new.units c.program.ensures.units_after in
+    let wire = c.program.ensures.after in
     record {
       answer = c.program.ensures.answer ∙ one_told_is line key ∙ sym (set_answer_is key c.args.address line a slot);
-      after = means_addressed key c.args.address line _ a slot units;
+      after = means_addressed key c.args.address line _ a slot wire.units_then;
       table_and_bus_after = record {
         sent = λ b same. record {
-          units_then = units ∙ ap (λ s. changed (addressed_at n s) line) (same_short a b (slot ∙ sym same));
-          count_then = refl;
+          wire_then = record { units_then = wire.units_then ∙ ap (λ s. changed (addressed_at (random_number key) s) line) (same_short a b (slot ∙ sym same)); bus_then = wire.bus_then };
           live_then = refl;
-          bus_then = c.program.ensures.bus_after;
         };
         not_sent = λ outside. absurd (both_ways _ outside (short_in_family a c.args.address slot));
       };
