@@ -1,81 +1,94 @@
 -- Fixtures that are fitted one after the other.
-use Rattle.std.proofs.Common.{◌≡◌, ℕ, ◌+◌, ◌-◌, ◌<◌, Bool, true, false, cond, ◌&&◌, eqb, leb, List, [], ◌∷◌, ◌++◌, map, length, get_or, take, drop, set, replicate, Some, None, sym, refl, ap, ◌∙◌, ap₂, arith}
-use Rattle.octets.proofs.Every.{first_lacks, first_has}
-use Rattle.std.proofs.lemmas.List.{drop_more, drop_all, take_all, take_more, take_more_set, drop-set-lt, drop-drop, drop-replicate, length-set, map_push}
+use Rattle.std.proofs.Common.{◌≡◌, ℕ, ◌+◌, ◌<◌, ◌≤◌, Bool, true, false, cond, ◌&&◌, eqb, leb, ◌⊎◌, List, [], ◌∷◌, ◌++◌, map, length, Some, None, sym, refl, ap, ◌∙◌, inl, inr, append-nil, append_assoc, length-append, arith}
+use Rattle.std.proofs.lemmas.List.{length-map, map_push}
 use Rattle.std.proofs.lemmas.Bool.{and_parts, and_from}
 use Rattle.std.proofs.lemmas.Bool.Decides.{nat_tests}
-use Rattle.keys.specs.Uid.{uid_number}
-use Rattle.keys.specs.declared.uid.Uid.{Uid}
+use Rattle.std.specs.List.{list_all}
 use Rattle.keys.specs.KeyNumbers.{is_uid_number}
 use Rattle.fixtures.specs.Fixture.{first_address, fresh_fixture}
 use Rattle.fixtures.specs.declared.fixture.Fixture.{Fixture}
-use Rattle.rdm_line.specs.Keys.{same_from_number}
-use Rattle.rdm_line.specs.Making.{empty_place, EmptyBehind, NewTable, fits_one, each_fits, width_of, as_delivered, Delivered}
-use Rattle.rdm_line.specs.Table.{number_of, distinct, address_fits, is_sound, each, keys_distinct, all_sound}
+use Rattle.octets.proofs.Every.{first_lacks, first_has}
+use Rattle.rdm_line.specs.Making.{fits_one, each_fits, width_of, as_delivered, Delivered}
+use Rattle.rdm_line.specs.Table.{number_of, distinct, address_fits, is_sound, keys_distinct, all_sound}
 
--- So many fixtures are fitted; the places behind them are empty.
-pub record FittedUpTo (i : ℕ) (keys widths : List ℕ) (places : List Fixture) : Type 0 where
-  pub fitted_ones : Delivered (take i keys) (take i widths) (take i places)
-  pub others_empty : EmptyBehind i places
-  pub rest_decides : each_fits (drop i keys) (drop i widths) ≡ each_fits keys widths
-  pub long : length places ≡ 128
+-- These fixtures are fitted, and these keys and widths are left.
+pub record FittedSoFar (keys widths : List ℕ) (fs : List Fixture) (keys_left widths_left : List ℕ) : Type 0 where
+  pub keys_in_order : map number_of fs ++ keys_left ≡ keys
+  pub widths_in_order : map width_of fs ++ widths_left ≡ widths
+  pub fresh : map as_delivered fs ≡ fs
+  pub rest_decides : each_fits keys_left widths_left ≡ each_fits keys widths
+  pub as_many : length keys_left ≡ length widths_left
 
-pub fits_none : (keys widths : List ℕ) (key : Uid) → uid_number key ≡ 0
-    → FittedUpTo 0 keys widths (replicate 128 (record { key = key; width = 0; address = None; muted = false }))
-fits_none keys widths key zero = record {
-  fitted_ones = record { keys_in_order = refl; widths_in_order = refl; fresh = refl };
-  others_empty = ap (λ k. replicate 128 (record { key = k; width = 0; address = None; muted = false })) (same_from_number key empty_place.key zero);
-  rest_decides = refl;
-  long = refl;
+pub fits_none : (keys widths : List ℕ) (fs : List Fixture) (left left' : List ℕ) → length keys ≡ length widths → fs ≡ [] → left ≡ keys → left' ≡ widths
+    → FittedSoFar keys widths fs left left'
+fits_none keys widths fs left left' as_many none first second = record {
+  keys_in_order = ap (λ gs. map number_of gs ++ left) none ∙ first;
+  widths_in_order = ap (λ gs. map width_of gs ++ left') none ∙ second;
+  fresh = ap (map as_delivered) none ∙ sym none;
+  rest_decides = λ i. each_fits (first i) (second i);
+  as_many = ap length first ∙ as_many ∙ ap length (sym second);
 }
 
-module _ (i : ℕ) (keys widths : List ℕ) (places : List Fixture) (in_keys : i < length keys) (in_widths : i < length widths) (so_far : FittedUpTo i keys widths places) where
-  -- What the key and the width at i tell.
-  turn : each_fits keys widths ≡ (fits_one (get_or keys i 0) (get_or widths i 0) && each_fits (drop (i + 1) keys) (drop (i + 1) widths))
-  turn = sym so_far.rest_decides ∙ ap₂ each_fits (drop_more keys i 0 in_keys) (drop_more widths i 0 in_widths)
+-- One more key and width.
+module _
+    (keys widths : List ℕ)
+    (fs : List Fixture)
+    (key width : ℕ)
+    (left keys_left left' widths_left : List ℕ)
+    (so_far : FittedSoFar keys widths fs left left')
+    (first : left ≡ key ∷ keys_left)
+    (second : left' ≡ width ∷ widths_left)
+  where
+    turn : each_fits keys widths ≡ (fits_one key width && each_fits keys_left widths_left)
+    turn = sym so_far.rest_decides ∙ (λ i. each_fits (first i) (second i))
 
-  pub cannot_fit : fits_one (get_or keys i 0) (get_or widths i 0) ≡ false → false ≡ each_fits keys widths
-  cannot_fit e = first_lacks (each_fits keys widths) (fits_one (get_or keys i 0) (get_or widths i 0)) (each_fits (drop (i + 1) keys) (drop (i + 1) widths)) turn e
+    pub cannot_fit : fits_one key width ≡ false → each_fits keys widths ≡ false
+    cannot_fit e = sym (first_lacks _ (fits_one key width) (each_fits keys_left widths_left) turn e)
 
-  pub fits_next : (f : Fixture) → i < length places → fits_one (get_or keys i 0) (get_or widths i 0) ≡ true → number_of f ≡ get_or keys i 0
-      → f ≡ fresh_fixture f.key (get_or widths i 0)
-      → FittedUpTo (i + 1) keys widths (set places i f)
-  fits_next f in_places fits number fresh =
-      let next = take_more_set places i f in_places in
-      let done = so_far.fitted_ones in
-      record {
-        fitted_ones = record {
-          keys_in_order =
-              ap (map number_of) next ∙ map_push number_of (take i places) f ∙ ap₂ (λ ns n. ns ++ (n ∷ [])) done.keys_in_order number ∙ sym (take_more keys i 0 in_keys);
-          widths_in_order =
-              ap (map width_of) next ∙ map_push width_of (take i places) f ∙ ap₂ (λ ns n. ns ++ (n ∷ [])) done.widths_in_order (ap width_of fresh) ∙ sym (take_more widths i 0 in_widths);
-          fresh =
-              ap (map as_delivered) next ∙ map_push as_delivered (take i places) f ∙ ap₂ (λ fs g. fs ++ (g ∷ [])) done.fresh (ap (fresh_fixture f.key) (ap width_of fresh) ∙ sym fresh) ∙ sym next;
-        };
-        others_empty =
-            drop-set-lt (i + 1) places i f (omega arith)
-            ∙ sym (drop-drop 1 i places)
-            ∙ ap (drop 1) so_far.others_empty
-            ∙ drop-replicate 1 (128 - i) empty_place
-            ∙ ap (λ n. replicate n empty_place) (omega arith);
-        long = length-set places i f ∙ so_far.long;
-        rest_decides = first_has (each_fits keys widths) (fits_one (get_or keys i 0) (get_or widths i 0)) (each_fits (drop (i + 1) keys) (drop (i + 1) widths)) turn fits;
-      }
+    pub room_for_one : length keys ≤ 128 → length fs < 128
+    room_for_one few =
+        let whole : length fs + length left ≡ length keys = ap (λ n. n + length left) (sym (length-map fs number_of)) ∙ sym (length-append (map number_of fs) left) ∙ ap length so_far.keys_in_order in
+        omega (arith, ap length first)
+
+    pub fits_next : (f : Fixture) (after : List Fixture) → fits_one key width ≡ true → number_of f ≡ key → f ≡ fresh_fixture f.key width → after ≡ fs ++ f ∷ []
+        → FittedSoFar keys widths after keys_left widths_left
+    fits_next f after fits number fresh pushed = record {
+      keys_in_order =
+          ap (λ gs. map number_of gs ++ keys_left) pushed
+          ∙ ap (λ ns. ns ++ keys_left) (map_push number_of fs f ∙ ap (λ n. map number_of fs ++ n ∷ []) number)
+          ∙ append_assoc (map number_of fs) (key ∷ []) keys_left
+          ∙ ap (λ l. map number_of fs ++ l) (sym first)
+          ∙ so_far.keys_in_order;
+      widths_in_order =
+          ap (λ gs. map width_of gs ++ widths_left) pushed
+          ∙ ap (λ ns. ns ++ widths_left) (map_push width_of fs f ∙ ap (λ n. map width_of fs ++ n ∷ []) (ap width_of fresh))
+          ∙ append_assoc (map width_of fs) (width ∷ []) widths_left
+          ∙ ap (λ l. map width_of fs ++ l) (sym second)
+          ∙ so_far.widths_in_order;
+      fresh =
+          ap (map as_delivered) pushed
+          ∙ map_push as_delivered fs f
+          ∙ (λ i. so_far.fresh i ++ (ap (fresh_fixture f.key) (ap width_of fresh) ∙ sym fresh) i ∷ [])
+          ∙ sym pushed;
+      rest_decides = first_has _ (fits_one key width) (each_fits keys_left widths_left) turn fits;
+      as_many = omega (arith, so_far.as_many, ap length first, ap length second);
+    }
 
 -- Every key and width has its fixture.
-pub fits_all : (i : ℕ) (keys widths : List ℕ) (places : List Fixture) → length keys ≡ length widths → i ≡ length keys → FittedUpTo i keys widths places
-    → NewTable keys widths (Some places)
-fits_all i keys widths places as_many end done =
-    let ones = done.fitted_ones in
-    let same : take i places ≡ take (length keys) places = ap (λ n. take n places) end in (
-      sym done.rest_decides ∙ ap (λ ns. each_fits ns (drop i widths)) (drop_all i keys (omega arith)),
-      record {
-        keys_in_order = ap (map number_of) (sym same) ∙ ones.keys_in_order ∙ take_all i keys (omega arith);
-        widths_in_order = ap (map width_of) (sym same) ∙ ones.widths_in_order ∙ take_all i widths (omega arith);
-        fresh = ap (map as_delivered) (sym same) ∙ ones.fresh ∙ same;
-      },
-      ap (λ n. drop n places) (sym end) ∙ done.others_empty ∙ ap (λ n. replicate (128 - n) empty_place) end,
-    )
+pub fits_all : (keys widths : List ℕ) (fs : List Fixture) (left left' : List ℕ) → FittedSoFar keys widths fs left left' → (left ≡ []) ⊎ (left' ≡ [])
+    → (each_fits keys widths ≡ true) × Delivered keys widths fs
+fits_all keys widths fs [] [] done end = (
+  sym done.rest_decides,
+  record {
+    keys_in_order = sym (append-nil (map number_of fs)) ∙ done.keys_in_order;
+    widths_in_order = sym (append-nil (map width_of fs)) ∙ done.widths_in_order;
+    fresh = done.fresh;
+  },
+)
+fits_all keys widths fs [] (w ∷ ws) done end = absurd (omega (arith, done.as_many))
+fits_all keys widths fs (k ∷ ks) [] done end = absurd (omega (arith, done.as_many))
+fits_all keys widths fs (k ∷ ks) (w ∷ ws) done (inl end) = absurd (omega (arith, ap length end))
+fits_all keys widths fs (k ∷ ks) (w ∷ ws) done (inr end) = absurd (omega (arith, ap length end))
 
 -- What is delivered is sound.
 delivered_sound : (f : Fixture) → leb f.width 512 ≡ true → as_delivered f ≡ f → is_sound f ≡ true
@@ -89,7 +102,7 @@ delivered_sound f small fresh = ap is_sound (sym fresh) ∙ by f.width small
         fits false e = grind (arith, nat_tests)
 
 -- The widths of fixtures that fit are up to 512.
-all_delivered_sound : (keys : List ℕ) (fs : List Fixture) → length keys ≡ length (map width_of fs) → each_fits keys (map width_of fs) ≡ true → map as_delivered fs ≡ fs → each is_sound fs ≡ true
+all_delivered_sound : (keys : List ℕ) (fs : List Fixture) → length keys ≡ length (map width_of fs) → each_fits keys (map width_of fs) ≡ true → map as_delivered fs ≡ fs → list_all is_sound fs ≡ true
 all_delivered_sound keys [] as_many fits fresh = refl
 all_delivered_sound [] (f ∷ fs) as_many fits fresh = absurd (omega arith)
 all_delivered_sound (key ∷ keys) (f ∷ fs) as_many fits fresh =
@@ -97,7 +110,7 @@ all_delivered_sound (key ∷ keys) (f ∷ fs) as_many fits fresh =
     let small = (and_parts (is_uid_number key) (leb f.width 512) parts.0).1 in
     let this : as_delivered f ≡ f = cc in
     let others : map as_delivered fs ≡ fs = cc in
-    and_from (is_sound f) (each is_sound fs) (delivered_sound f small this) (all_delivered_sound keys fs (omega arith) parts.1 others)
+    and_from (is_sound f) (list_all is_sound fs) (delivered_sound f small this) (all_delivered_sound keys fs (omega arith) parts.1 others)
 
 -- A table of delivered fixtures keeps what a line keeps.
 module _ (keys widths : List ℕ) (fs : List Fixture) (done : Delivered keys widths fs) where

@@ -1,4 +1,3 @@
-pub mod Among
 pub mod Broadcast
 pub mod Fitting
 pub mod Gathering

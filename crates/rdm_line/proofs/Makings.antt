@@ -1,6 +1,6 @@
 -- What a making refuses.
-use Rattle.std.proofs.Common.{◌≡◌, ℕ, ◌<◌, ◌≤◌, true, false, leb, List, length, Some, None, arith}
-use Rattle.std.proofs.lemmas.Bool.{eq-eqb, lt-leb, le-leb, and_left, and_right, and_from}
+use Rattle.std.proofs.Common.{◌≡◌, ℕ, ◌<◌, ◌≤◌, true, false, cond, not, leb, List, length, Some, None, arith}
+use Rattle.std.proofs.lemmas.Bool.{eq-eqb, lt-leb, le-leb, and_left, and_right}
 use Rattle.refusals.specs.declared.Refusal.TheVariants.{AboveLimit, KeyTwice}
 use Rattle.rdm_line.specs.Making.{each_fits, within_limits, making_refusal}
 use Rattle.rdm_line.specs.Mode.{mode_number}
@@ -27,16 +27,11 @@ module _ (keys widths : List ℕ) (mode : ℕ) where
   unfolding within_limits
   one_unfit h = and_right (leb mode 3) _ (and_right (leb (length keys) 128) (each_fits keys widths) h)
 
-  all_within : mode ≤ 3 → length keys ≤ 128 → each_fits keys widths ≡ true → within_limits keys widths mode ≡ true
-  unfolding within_limits
-  all_within low few fits = and_from (leb mode 3) _ (le-leb mode 3 low) (and_from (leb (length keys) 128) (each_fits keys widths) (le-leb (length keys) 128 few) fits)
-
   module _ (as_many : length keys ≡ length widths) where
     pub above_limit : within_limits keys widths mode ≡ false → making_refusal keys widths mode ≡ Some AboveLimit
     above_limit h = rw (eq-eqb (length keys) (length widths) as_many, h)
 
-    pub key_twice : mode ≤ 3 → length keys ≤ 128 → each_fits keys widths ≡ true → distinct keys ≡ false → making_refusal keys widths mode ≡ Some KeyTwice
-    key_twice low few fits h = rw (eq-eqb (length keys) (length widths) as_many, all_within low few fits, h)
-
-    pub none_refused : mode ≤ 3 → length keys ≤ 128 → each_fits keys widths ≡ true → distinct keys ≡ true → making_refusal keys widths mode ≡ None
-    none_refused low few fits h = rw (eq-eqb (length keys) (length widths) as_many, all_within low few fits, h)
+    -- Within the limits, only a key twice is refused.
+    pub only_twice : mode ≤ 3 → length keys ≤ 128 → each_fits keys widths ≡ true → making_refusal keys widths mode ≡ cond (not (distinct keys)) (Some KeyTwice) None
+    unfolding within_limits
+    only_twice low few fits = rw (eq-eqb (length keys) (length widths) as_many, le-leb mode 3 low, le-leb (length keys) 128 few, fits)

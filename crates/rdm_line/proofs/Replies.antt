@@ -2,6 +2,7 @@
 use Rattle.std.proofs.Common.{◌≡◌, ℕ, ◌+◌, ◌-◌, ◌*◌, ◌/◌, ◌%◌, ◌^◌, ◌<◌, ◌≤◌, Bool, true, false, cond, ◌&&◌, eqb, leb, is_some, IfSome, Some, None, Ok, Option, sym, refl, ap, ◌∙◌, subst, ap₂, arith}
 use Rattle.std.proofs.lemmas.Bool.{and_parts, leb-true, ne_eqb}
 use Rattle.std.proofs.lemmas.Bool.Decides.{nat_tests}
+use Rattle.std.proofs.Math.Bool.{and-true, and-false}
 use Rattle.std.specs.Option.{option_map}
 use Rattle.keys.specs.Address.{in_family}
 use Rattle.keys.specs.declared.address.Address.{Address}
@@ -30,7 +31,6 @@ use Rattle.rdm_line.specs.Means.{fixture_at, seen, meaning_of}
 use Rattle.rdm_line.specs.State.{State, fitted}
 use Rattle.rdm_line.specs.Table.{address_fits, is_sound, keys_distinct, all_sound}
 use Rattle.rdm_line.specs.Finding.{found_passes}
-use Rattle.rdm_line.specs.Maps.{and_true, and_false}
 use Rattle.rdm_line.proofs.Questions.{refused_signal}
 use Rattle.rdm_line.proofs.Unicast.{own_answer, answer_heard, one_replies}
 
@@ -145,8 +145,8 @@ module _ (key : Uid) (a : Address) where
         by false inside e = refl
         by true false e =
             ap (yes_heard (expects parameter.StartAddress 0 key)) (sym (refused_signal (StartAddress key a) (fitted s) s.mode AddressOutside (rw e)))
-            ∙ sym (and_false (wide_there (option_map seen (fixture_at (fitted s) key))))
+            ∙ sym (and-false (wide_there (option_map seen (fixture_at (fitted s) key))))
         by true true e =
             ap (yes_heard (expects parameter.StartAddress 0 key)) (one_replies (StartAddress key a) key refl (rw e) s.mode (fitted s) apart)
             ∙ found_yes e (fixture_at (fitted s) key)
-            ∙ sym (and_true (wide_there (option_map seen (fixture_at (fitted s) key))))
+            ∙ sym (and-true (wide_there (option_map seen (fixture_at (fitted s) key))))

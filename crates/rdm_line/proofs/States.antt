@@ -1,6 +1,7 @@
 -- What a line holds after each question.
 use Rattle.std.proofs.Common.{◌≡◌, Bool, true, false, cond, ◌&&◌, ◌||◌, eqb, List, map, Some, None, Option, sym, refl, ap, ◌∙◌, map-id}
-use Rattle.std.proofs.lemmas.List.{take-append-drop}
+use Rattle.std.proofs.Math.Bool.{and-true, and-false}
+use Rattle.std.specs.List.{list_all}
 use Rattle.keys.specs.Address.{in_family}
 use Rattle.keys.specs.declared.address.Address.{Address}
 use Rattle.keys.specs.declared.range.Range.{Range}
@@ -20,9 +21,9 @@ use Rattle.rdm_line.specs.Asking.{asked, line_asked}
 use Rattle.rdm_line.specs.Effects.{at_key, moved_to, roused_state, rested_state, hushed_state, addressed_state}
 use Rattle.rdm_line.specs.Means.{has_key}
 use Rattle.rdm_line.specs.State.{State, fitted, with_fitted, with_live}
-use Rattle.rdm_line.specs.Table.{is_muted, each, muted_unless}
+use Rattle.rdm_line.specs.Table.{is_muted, muted_unless}
 use Rattle.rdm_line.proofs.Broadcast.{all_changed}
-use Rattle.rdm_line.specs.Maps.{map_by, first_changed, cond_same, and_true, and_false}
+use Rattle.rdm_line.specs.Maps.{map_by, cond_same}
 use Rattle.rdm_line.proofs.Questions.{refused_table}
 use Rattle.rdm_line.proofs.Tables.{all_muted}
 use Rattle.rdm_line.proofs.Unicast.{one_changed}
@@ -35,14 +36,7 @@ module _ (s : State) where
 
   -- A question that changes no fixture.
   unchanged : (q : Question) → asked q (fitted s) ≡ fitted s → line_asked q s ≡ s
-  unchanged q same = spoken_by q (λ fs. fs) same ∙ by s.live
-    where
-      whole : with_fitted (λ fs. fs) s ≡ s
-      whole = ap (λ fs. record { places = fs; count = s.count; mode = s.mode; live = s.live }) (take-append-drop s.count s.places)
-
-      by : (live : Bool) → cond live (with_fitted (λ fs. fs) s) s ≡ s
-      by true = whole
-      by false = refl
+  unchanged q same = spoken_by q (λ fs. fs) same ∙ cond_same s.live s
 
   pub rouses : line_asked (UnMute All) (with_live true s) ≡ roused_state s
   unfolding roused_state
@@ -60,10 +54,10 @@ module _ (s : State) where
   -- Afterwards every fitted fixture is muted, so that the line can be shut.
   pub rests_muted : muted_unless s.live (fitted s) ≡ true → muted_unless false (fitted (line_asked (Mute All) s)) ≡ true
   unfolding muted_unless
-  rests_muted before = ap (λ t. each is_muted (fitted t)) (spoken_by (Mute All) (map (with_muted true)) (all_changed (Mute All) refl refl (fitted s))) ∙ by s.live before
+  rests_muted before = ap (λ t. list_all is_muted (fitted t)) (spoken_by (Mute All) (map (with_muted true)) (all_changed (Mute All) refl refl (fitted s))) ∙ by s.live before
     where
-      by : (live : Bool) → (live || each is_muted (fitted s)) ≡ true → each is_muted (fitted (cond live (with_fitted (map (with_muted true)) s) s)) ≡ true
-      by true before = ap (each is_muted) (first_changed (with_muted true) s.count s.places) ∙ all_muted (fitted s)
+      by : (live : Bool) → (live || list_all is_muted (fitted s)) ≡ true → list_all is_muted (fitted (cond live (with_fitted (map (with_muted true)) s) s)) ≡ true
+      by true before = all_muted (fitted s)
       by false before = before
 
   pub hushes : (key : Uid) → line_asked (Mute (One key)) s ≡ hushed_state key s
@@ -102,7 +96,7 @@ module _ (s : State) where
           spoken_by (StartAddress key a) (map (at_key key (moved_to a)))
           (one_changed (StartAddress key a) key refl (rw e) (fitted s)
           ∙ map_by (at_key key (λ f. (moved f a).0)) (at_key key (moved_to a)) (λ f. ap (λ g. cond (has_key key f) g f) (taken a e f)) (fitted s))
-          ∙ ap (λ t. cond t (with_fitted (map (at_key key (moved_to a))) s) s) (sym (and_true s.live))
+          ∙ ap (λ t. cond t (with_fitted (map (at_key key (moved_to a))) s) s) (sym (and-true s.live))
       by false e =
           unchanged (StartAddress key a) (sym (refused_table (StartAddress key a) (fitted s) AddressOutside (rw e)))
-          ∙ ap (λ t. cond t (with_fitted (map (at_key key (moved_to a))) s) s) (sym (and_false s.live))
+          ∙ ap (λ t. cond t (with_fitted (map (at_key key (moved_to a))) s) s) (sym (and-false s.live))

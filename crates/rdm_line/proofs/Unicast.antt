@@ -1,6 +1,6 @@
 -- Questions to one key: the fixture that has it obeys and replies, and no other does.
-use Rattle.std.proofs.Common.{◌≡◌, ℕ, Bool, true, false, cond, not, eqb, List, [], ◌∷◌, map, Some, None, Option, refl, ap, ◌∙◌, arith}
-use Rattle.std.proofs.lemmas.Bool.{eqb-true, and_parts, or_parts, not-true}
+use Rattle.std.proofs.Common.{◌≡◌, ℕ, Bool, true, false, cond, eqb, List, [], ◌∷◌, map, Some, None, Option, refl, ap, ◌∙◌, arith}
+use Rattle.std.proofs.lemmas.Bool.{eqb-true, or_parts, not-true}
 use Rattle.std.specs.Option.{option_map}
 use Rattle.keys.specs.Uid.{uid_number}
 use Rattle.keys.specs.declared.uid.Uid.{Uid}
@@ -13,12 +13,13 @@ use Rattle.fixtures.specs.Reach.{reach_of}
 use Rattle.fixtures.specs.Reaction.{obeyed, reacted, reaction}
 use Rattle.fixtures.specs.declared.fixture.Fixture.{Fixture}
 use Rattle.fixtures.specs.declared.reach.Reach.TheVariants.{Unicast, NotAtAll}
+use Rattle.lines.specs.Twice.{is_among, has_twice}
 use Rattle.rdm_line.specs.Asking.{frame_of, asked, replies}
 use Rattle.rdm_line.specs.Cable.{Signal, quiet, joined}
 use Rattle.rdm_line.specs.Effects.{at_key}
 use Rattle.rdm_line.specs.Means.{has_key, fixture_at}
 use Rattle.rdm_line.specs.Sending.{spoken, reply_to, after, gathered}
-use Rattle.rdm_line.specs.Table.{number_of, among, distinct, keys_distinct}
+use Rattle.rdm_line.specs.Table.{number_of, keys_distinct}
 use Rattle.rdm_line.specs.declared.mode.Mode.{Mode}
 use Rattle.rdm_line.proofs.Gathering.{joined_quiet}
 use Rattle.rdm_line.specs.Maps.{map_by}
@@ -38,23 +39,23 @@ answer_heard answer None = quiet
 answer_heard answer (Some f) = spoken f.key (answer f)
 
 module _ (mode : Mode) (key : Uid) (answer : Fixture → Option (List ℕ)) where
-  others_quiet : (n : ℕ) → uid_number key ≡ n → (s : Signal) (fs : List Fixture) → among n (map number_of fs) ≡ false → gathered mode s (map (answers_if key answer) fs) ≡ s
+  others_quiet : (n : ℕ) → uid_number key ≡ n → (s : Signal) (fs : List Fixture) → is_among n (map number_of fs) ≡ false → gathered mode s (map (answers_if key answer) fs) ≡ s
   others_quiet n is s [] apart = refl
   others_quiet n is s (f ∷ fs) apart =
-      let parts = or_parts (eqb n (number_of f)) (among n (map number_of fs)) apart in
+      let parts = or_parts (eqb n (number_of f)) (is_among n (map number_of fs)) apart in
       let other : has_key key f ≡ false = ap (λ m. eqb m (number_of f)) is ∙ parts.0 in
       ap (λ t. gathered mode (joined mode s (spoken f.key (cond t (answer f) None))) (map (answers_if key answer) fs)) other
       ∙ ap (λ t. gathered mode t (map (answers_if key answer) fs)) (joined_quiet mode s)
       ∙ others_quiet n is s fs parts.1
 
-  one_heard : (fs : List Fixture) → distinct (map number_of fs) ≡ true
+  one_heard : (fs : List Fixture) → has_twice (map number_of fs) ≡ false
       → gathered mode quiet (map (answers_if key answer) fs) ≡ answer_heard answer (fixture_at fs key)
   one_heard [] apart = refl
   one_heard (f ∷ fs) apart =
-      let parts = and_parts (not (among (number_of f) (map number_of fs))) (distinct (map number_of fs)) apart in
-      by (has_key key f) refl (not-true (among (number_of f) (map number_of fs)) parts.0) (one_heard fs parts.1)
+      let parts = or_parts (is_among (number_of f) (map number_of fs)) (has_twice (map number_of fs)) apart in
+      by (has_key key f) refl parts.0 (one_heard fs parts.1)
     where
-      by : (here : Bool) → has_key key f ≡ here → among (number_of f) (map number_of fs) ≡ false
+      by : (here : Bool) → has_key key f ≡ here → is_among (number_of f) (map number_of fs) ≡ false
           → gathered mode quiet (map (answers_if key answer) fs) ≡ answer_heard answer (fixture_at fs key)
           → gathered mode (spoken f.key (cond here (answer f) None)) (map (answers_if key answer) fs)
           ≡ answer_heard answer (cond here (Some f) (fixture_at fs key))
@@ -96,4 +97,4 @@ module _ (q : Question) (key : Uid) (to_one : destination_of q ≡ One key) (fin
   one_replies mode fs apart =
       sent_signal q fs mode fine
       ∙ ap (gathered mode quiet) (map_by (reply_to (frame_of q)) (answers_if key (own_answer q)) reply_one fs)
-      ∙ one_heard mode key (own_answer q) fs apart
+      ∙ one_heard mode key (own_answer q) fs (not-true (has_twice (map number_of fs)) apart)

@@ -1,15 +1,16 @@
 -- The fixture that has a key, in a table that changes.
-use Rattle.std.specs.Prelude.{◌≡◌, ℕ, Bool, true, false, cond, not, List, [], ◌∷◌, map, IfSome, Some, None, Option, ◌==◌, refl}
+use Rattle.std.specs.Prelude.{◌≡◌, ℕ, Bool, true, false, cond, List, [], ◌∷◌, map, IfSome, Some, None, Option, ◌==◌, refl}
 use Rattle.std.proofs.Common.{sym, ap, ◌∙◌}
 use Rattle.std.proofs.lemmas.Bool.{eqb-true, eq-eqb, and_parts, or_parts, not-true, cond-false}
 use Rattle.std.specs.Option.{option_map}
-use Rattle.std.specs.List.{AllByRecursion}
+use Rattle.std.specs.List.{AllByRecursion, list_all}
 use Rattle.keys.specs.Uid.{uid_number}
 use Rattle.keys.specs.declared.uid.Uid.{Uid}
 use Rattle.fixtures.specs.declared.fixture.Fixture.{Fixture}
+use Rattle.lines.specs.Twice.{is_among, has_twice}
 use Rattle.rdm_line.specs.Effects.{at_key}
 use Rattle.rdm_line.specs.Means.{has_key, fixture_at}
-use Rattle.rdm_line.specs.Table.{number_of, among, distinct, each, keys_distinct}
+use Rattle.rdm_line.specs.Table.{number_of, keys_distinct}
 use Rattle.rdm_line.specs.Keys.{eqb_turned}
 
 -- A change that keeps keys changes what is found.
@@ -58,10 +59,10 @@ found_at_key key g fs j = by (fixture_at fs j) (found_key fs j)
         ∙ pushed (uid_number j == uid_number key) f
 
 -- What each fixture passes is passed by what is found.
-pub found_passes : (test : Fixture → Bool) (fs : List Fixture) (key : Uid) → each test fs ≡ true → IfSome (fixture_at fs key) (λ f. test f ≡ true)
+pub found_passes : (test : Fixture → Bool) (fs : List Fixture) (key : Uid) → list_all test fs ≡ true → IfSome (fixture_at fs key) (λ f. test f ≡ true)
 found_passes test [] key all = tt
 found_passes test (f ∷ fs) key all =
-    let parts = and_parts (test f) (each test fs) all in
+    let parts = and_parts (test f) (list_all test fs) all in
     by (has_key key f) parts.0 (found_passes test fs key parts.1)
   where
     by : (here : Bool) → test f ≡ true → IfSome (fixture_at fs key) (λ g. test g ≡ true) → IfSome (cond here (Some f) (fixture_at fs key)) (λ g. test g ≡ true)
@@ -69,21 +70,21 @@ found_passes test (f ∷ fs) key all =
     by false this later = later
 
 -- Where no key stands twice, each fixture is the one that has its key.
-others_apart : (n : ℕ) (fs : List Fixture) → among n (map number_of fs) ≡ false → AllByRecursion (λ f. (n == number_of f) ≡ false) fs
+others_apart : (n : ℕ) (fs : List Fixture) → is_among n (map number_of fs) ≡ false → AllByRecursion (λ f. (n == number_of f) ≡ false) fs
 others_apart n [] apart = tt
 others_apart n (f ∷ fs) apart =
-    let parts = or_parts (n == number_of f) (among n (map number_of fs)) apart in
+    let parts = or_parts (n == number_of f) (is_among n (map number_of fs)) apart in
     (parts.0, others_apart n fs parts.1)
 
 both_of : {X : Type 0} (P Q R : X → Type 0) → ((x : X) → P x → Q x → R x) → (xs : List X) → AllByRecursion P xs → AllByRecursion Q xs → AllByRecursion R xs
 both_of P Q R join [] ps qs = tt
 both_of P Q R join (x ∷ xs) (p, ps) (q, qs) = (join x p q, both_of P Q R join xs ps qs)
 
-finds_each : (fs : List Fixture) → distinct (map number_of fs) ≡ true → AllByRecursion (λ f. fixture_at fs f.key ≡ Some f) fs
+finds_each : (fs : List Fixture) → has_twice (map number_of fs) ≡ false → AllByRecursion (λ f. fixture_at fs f.key ≡ Some f) fs
 finds_each [] apart = tt
 finds_each (f ∷ fs) apart =
-    let parts = and_parts (not (among (number_of f) (map number_of fs))) (distinct (map number_of fs)) apart in
-    let others = others_apart (number_of f) fs (not-true (among (number_of f) (map number_of fs)) parts.0) in (
+    let parts = or_parts (is_among (number_of f) (map number_of fs)) (has_twice (map number_of fs)) apart in
+    let others = others_apart (number_of f) fs parts.0 in (
       rw (eq-eqb (number_of f) (number_of f) refl),
       both_of (λ g. (number_of f == number_of g) ≡ false) (λ g. fixture_at fs g.key ≡ Some g) (λ g. fixture_at (f ∷ fs) g.key ≡ Some g)
           (λ g other here. cond-false (has_key g.key f) (Some f) (fixture_at fs g.key) (eqb_turned (number_of g) (number_of f) ∙ other) ∙ here)
@@ -92,4 +93,4 @@ finds_each (f ∷ fs) apart =
 
 pub each_found : (fs : List Fixture) → keys_distinct fs ≡ true → AllByRecursion (λ f. fixture_at fs f.key ≡ Some f) fs
 unfolding keys_distinct
-each_found fs apart = finds_each fs apart
+each_found fs apart = finds_each fs (not-true (has_twice (map number_of fs)) apart)

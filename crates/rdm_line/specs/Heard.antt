@@ -1,11 +1,13 @@
 -- What is read off the cable.
 use Rattle.std.specs.Prelude.{ℕ, Bool, true, false, None, Ok, Err, Option, Result}
 use Rattle.std.specs.Option.{option_map}
+use Rattle.std.specs.Result.{result_ok}
 use Rattle.keys.specs.Uid.{uid_number}
 use Rattle.keys.specs.declared.uid.Uid.{Uid}
 use Rattle.refusals.specs.declared.Refusal.{Refusal}
 use Rattle.rdm.specs.ReadReply.{DataOfReply, reply_at, info_at}
 use Rattle.rdm.specs.declared.read_reply.Expected.{Expected}
+use Rattle.rdm.specs.declared.read_reply.ReadReply.{ReadReply}
 use Rattle.rdm.specs.declared.reply.DeviceInfo.{DeviceInfo}
 use Rattle.rdm.specs.declared.reply.Response.TheVariants.{Ack, Nack}
 use Rattle.branch.specs.BranchReply.{branch_read}
@@ -29,6 +31,16 @@ abbrev pub branch_heard : Signal → ProbeAnswer ℕ
 branch_heard quiet = Silent
 branch_heard (carrying bytes sender) = read_as (branch_read bytes)
 branch_heard noise = Garbled
+
+-- What was read of a reply.
+abbrev pub reply_data : ReadReply → DataOfReply
+reply_data reply = (reply.response, reply.place, reply.payload.now)
+
+-- The reply to the question that is expected to be answered, if one is read.
+abbrev pub reply_heard : Expected → Signal → Option DataOfReply
+reply_heard expected quiet = None
+reply_heard expected (carrying bytes sender) = result_ok (reply_at expected bytes)
+reply_heard expected noise = None
 
 -- Whether a reply says yes.
 abbrev pub says_yes : Result DataOfReply Refusal → Bool

@@ -1,7 +1,7 @@
 pub mod Asking
 pub mod Cable
 pub mod Effects
-pub mod Gate
+pub mod Joining
 pub mod Heard
 pub mod Making
 pub mod Means

@@ -4,6 +4,8 @@ use Rattle.std.proofs.Math.Path.{refl, ap}
 use Rattle.std.proofs.Common.{sym, subst, ◌∙◌, arith}
 use Rattle.std.proofs.lemmas.Bool.{both_ways, eqb-true, and_parts, leb-true, cond-true, cond-false, cond_both}
 use Rattle.std.proofs.lemmas.Bool.Decides.{nat_tests}
+use Rattle.std.proofs.Math.Bool.{and-true, and-false}
+use Rattle.std.specs.List.{list_all}
 use Rattle.std.specs.Option.{option_map}
 use Rattle.keys.specs.Uids.{same_from_rank}
 use Rattle.keys.specs.Address.{in_family}
@@ -18,10 +20,9 @@ use Rattle.lines.specs.Rules.{with_awake, roused, rested, changed_at, hushed, wi
 use Rattle.rdm_line.specs.Effects.{at_key, moved_to, roused_state, rested_state, hushed_state, addressed_state}
 use Rattle.rdm_line.specs.Means.{has_key, fixture_at, seen, meaning_of}
 use Rattle.rdm_line.specs.State.{State, fitted, with_fitted, with_live}
-use Rattle.rdm_line.specs.Table.{address_fits, is_sound, is_muted, each, all_sound, muted_unless}
+use Rattle.rdm_line.specs.Table.{address_fits, is_sound, is_muted, all_sound, muted_unless}
 use Rattle.rdm_line.specs.Finding.{found_changed, found_at_key, found_passes}
 use Rattle.rdm_line.specs.Keys.{same_test}
-use Rattle.rdm_line.specs.Maps.{first_changed, and_true, and_false}
 
 pub live_meaning : (s : State) → s.live ≡ (meaning_of s).live
 unfolding meaning_of
@@ -40,7 +41,7 @@ asleep_already (Some f) muted = ap (λ b. Some (record { awake = not b; width = 
 module _ (s : State) where
   found_after : (g : Fixture → Fixture) → ((f : Fixture) → (g f).key ≡ f.key) → (key : Uid)
       → fixture_at (fitted (with_fitted (map g) s)) key ≡ option_map g (fixture_at (fitted s) key)
-  found_after g same key = ap (λ fs. fixture_at fs key) (first_changed g s.count s.places) ∙ found_changed g same (fitted s) key
+  found_after g same key = found_changed g same (fitted s) key
 
   pub rouse_means : meaning_of (roused_state s) ≡ roused (meaning_of s)
   unfolding meaning_of roused_state roused
@@ -56,7 +57,7 @@ module _ (s : State) where
       muted_at : (key : Uid) → option_map seen (fixture_at (fitted (with_fitted (map (with_muted true)) s)) key) ≡ option_map (with_awake false) (option_map seen (fixture_at (fitted s) key))
       muted_at key = ap (option_map seen) (found_after (with_muted true) (λ f. refl) key) ∙ seen_switched true (fixture_at (fitted s) key)
 
-      by : (live : Bool) → s.live ≡ live → (live || each is_muted (fitted s)) ≡ true
+      by : (live : Bool) → s.live ≡ live → (live || list_all is_muted (fitted s)) ≡ true
           → meaning_of (cond live (with_live false (with_fitted (map (with_muted true)) s)) s) ≡ record { live = false; at = λ key. option_map (with_awake false) (option_map seen (fixture_at (fitted s) key)) }
       by true e all = λ i. record { live = false; at = λ key. muted_at key i }
       by false e all = λ i. record { live = e i; at = λ key. asleep_already (fixture_at (fitted s) key) (found_passes is_muted (fitted s) key all) i }
@@ -147,14 +148,14 @@ module _ (s : State) where
       by : (live inside : Bool) → meaning_of (cond (live && inside) (with_fitted (map (at_key key (moved_to a))) s) s)
           ≡ cond (live && (wide_there (option_map seen (fixture_at (fitted s) key)) && inside)) (changed_at uid_rank key (rules.with_address a) (meaning_of s)) (meaning_of s)
       by false inside = refl
-      by true false = ap (λ t. cond t (changed_at uid_rank key (rules.with_address a) (meaning_of s)) (meaning_of s)) (sym (and_false (wide_there (option_map seen (fixture_at (fitted s) key)))))
+      by true false = ap (λ t. cond t (changed_at uid_rank key (rules.with_address a) (meaning_of s)) (meaning_of s)) (sym (and-false (wide_there (option_map seen (fixture_at (fitted s) key)))))
       by true true =
           changed_if (meaning_of s) (meaning_of (with_fitted (map (at_key key (moved_to a))) s)) key (rules.with_address a) (option_map (moved_there a)) refl
           (changed_there s key (moved_to a) (moved_key a) (moved_there a) (seen_moved a))
           (wide_there (option_map seen (fixture_at (fitted s) key)))
           (wide_moves a (option_map seen (fixture_at (fitted s) key)))
           (narrow_stays a (option_map seen (fixture_at (fitted s) key)))
-          ∙ ap (λ t. cond t (changed_at uid_rank key (rules.with_address a) (meaning_of s)) (meaning_of s)) (sym (and_true (wide_there (option_map seen (fixture_at (fitted s) key)))))
+          ∙ ap (λ t. cond t (changed_at uid_rank key (rules.with_address a) (meaning_of s)) (meaning_of s)) (sym (and-true (wide_there (option_map seen (fixture_at (fitted s) key)))))
 
 -- What is seen of a sound fixture is sound.
 address_inside : (width : ℕ) (o : Option Address) → address_fits width o ≡ true → IfSome o (λ a. in_family 1 512 a ≡ true)

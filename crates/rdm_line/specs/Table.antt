@@ -1,21 +1,18 @@
 -- What holds of the fixtures that are fitted to a line.
-use Rattle.std.specs.Prelude.{ℕ, Bool, true, false, not, ◌&&◌, ◌||◌, List, [], ◌∷◌, map, Some, None, Option, ◌==◌, nat_le}
+use Rattle.std.specs.Prelude.{ℕ, Bool, true, not, ◌&&◌, ◌||◌, List, map, Some, None, Option, nat_le}
+use Rattle.std.specs.List.{list_all}
 use Rattle.keys.specs.Address.{in_family}
 use Rattle.keys.specs.Uid.{uid_number}
 use Rattle.keys.specs.declared.address.Address.{Address}
 use Rattle.fixtures.specs.declared.fixture.Fixture.{Fixture}
+use Rattle.lines.specs.Twice.{has_twice}
 
 abbrev pub number_of : Fixture → ℕ
 number_of f = uid_number f.key
 
-abbrev pub among : ℕ → List ℕ → Bool
-among n [] = false
-among n (m ∷ ms) = n == m || among n ms
-
 -- No number stands twice.
 abbrev pub distinct : List ℕ → Bool
-distinct [] = true
-distinct (n ∷ ns) = not (among n ns) && distinct ns
+distinct ns = not (has_twice ns)
 
 -- A fixture with an address takes slots, and begins at one of the slots 1 to 512.
 abbrev pub address_fits : ℕ → Option Address → Bool
@@ -28,16 +25,12 @@ is_sound f = nat_le f.width 512 && address_fits f.width f.address
 abbrev pub is_muted : Fixture → Bool
 is_muted f = f.muted
 
-abbrev pub each : (Fixture → Bool) → List Fixture → Bool
-each test [] = true
-each test (f ∷ fs) = test f && each test fs
-
 unfoldable pub keys_distinct : List Fixture → Bool
 keys_distinct fs = distinct (map number_of fs)
 
 unfoldable pub all_sound : List Fixture → Bool
-all_sound fs = each is_sound fs
+all_sound fs = list_all is_sound fs
 
 -- Every fixture of a line that is not live is muted.
 unfoldable pub muted_unless : Bool → List Fixture → Bool
-muted_unless live fs = live || each is_muted fs
+muted_unless live fs = live || list_all is_muted fs

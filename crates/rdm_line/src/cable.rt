@@ -1,22 +1,22 @@
 // The cable that replies meet on.
-ghost use Rattle.std.specs.Prelude.{◌≡◌};
+ghost use Rattle.std.specs.Prelude.{◌≡◌, ℕ};
 ghost use Rattle.branch.specs.Overlaid.{overlaid};
 ghost use Rattle.rdm_line.specs.Cable.{signal_on, sent_bytes, lower, collided, joined};
-ghost use Rattle.rdm_line.specs.Gate.{gated};
+ghost use Rattle.rdm_line.specs.Joining.{Joins};
 
 use crate::mode::Mode;
-use crate::overlay::{Gate, overlay};
+use crate::overlay::overlay;
 use fixtures::message::Message;
 use keys::uid::Uid;
 
 // A message, and the lowest key of those that sent it.
-#[derive(Clone, Copy)]
+#[derive(Drop)]
 pub struct Sent {
     pub message: Message,
     pub sender: Uid,
 }
 
-#[derive(Clone, Copy)]
+#[derive(Drop)]
 pub enum Cable {
     // Nobody replied.
     Quiet,
@@ -25,21 +25,15 @@ pub enum Cable {
     Noise,
 }
 
-// The one with the lower number.
-fn lower_key(x: Uid, y: Uid) -> Uid
-    ensures { result ≡ lower x y }
-{
-    if y.number() < x.number() { y } else { x }
-}
-
 // Both messages at once, bit by bit.
-fn mix(gate: Gate, first: Sent, second: Sent) -> Sent
-    ensures bytes { sent_bytes result ≡ overlaid (gated gate) (sent_bytes first) (sent_bytes second) }
+fn mix<F: Fn(u8, u8) -> u8>(first: Sent, second: Sent, join: F) -> Sent
+    requires { F.IsAlwaysCallable join }
+    ensures bytes { (together : ℕ → ℕ → ℕ) → Joins (F.post join) together → sent_bytes result ≡ overlaid together (sent_bytes first) (sent_bytes second) }
     ensures sender { result.sender ≡ lower first.sender second.sender }
 {
     Sent {
-        message: overlay(gate, first.message, second.message),
-        sender: lower_key(first.sender, second.sender),
+        message: overlay(&first.message, &second.message, join),
+        sender: first.sender.min(second.sender),
     }
 }
 
@@ -49,9 +43,9 @@ fn collide(mode: Mode, first: Sent, second: Sent) -> Cable
 {
     match mode {
         Mode::Garble => Cable::Noise,
-        Mode::Or => Cable::Carries(mix(Gate::Or, first, second)),
-        Mode::And => Cable::Carries(mix(Gate::And, first, second)),
-        Mode::Lowest if second.sender.number() < first.sender.number() => Cable::Carries(second),
+        Mode::Or => Cable::Carries(mix(first, second, |x, y| x | y)),
+        Mode::And => Cable::Carries(mix(first, second, |x, y| x & y)),
+        Mode::Lowest if second.sender < first.sender => Cable::Carries(second),
         Mode::Lowest => Cable::Carries(first),
     }
 }
@@ -65,7 +59,7 @@ impl Cable {
             Cable::Quiet => other,
             Cable::Noise => Cable::Noise,
             Cable::Carries(first) => match other {
-                Cable::Quiet => self,
+                Cable::Quiet => Cable::Carries(first),
                 Cable::Noise => Cable::Noise,
                 Cable::Carries(second) => collide(mode, first, second),
             },

@@ -1,6 +1,8 @@
 // What two or more replies become that meet on the cable.
 ghost use Rattle.rdm_line.specs.Mode.{ModeNumbered};
 
+use refusals::Refusal;
+
 #[derive(Clone, Copy)]
 pub enum Mode {
     // 0: nothing that can be read.
@@ -13,17 +15,19 @@ pub enum Mode {
     Lowest,
 }
 
-impl Mode {
-    // The mode of a number; none above 3.
-    pub fn from_number(number: u32) -> Option<Mode>
-        ensures { ModeNumbered number result }
-    {
+// The mode of a number; none above 3.
+impl TryFrom<u32> for Mode {
+    type Error = Refusal;
+
+    ghost try_from_gives = { ModeNumbered };
+
+    fn try_from(number: u32) -> Result<Mode, Refusal> {
         match number {
-            0 => Some(Mode::Garble),
-            1 => Some(Mode::Or),
-            2 => Some(Mode::And),
-            3 => Some(Mode::Lowest),
-            _ => None,
+            0 => Ok(Mode::Garble),
+            1 => Ok(Mode::Or),
+            2 => Ok(Mode::And),
+            3 => Ok(Mode::Lowest),
+            _ => Err(Refusal::AboveLimit),
         }
     }
 }

@@ -1,27 +1,17 @@
 // The making of a line, from the numbers of its keys, their widths and the number of its mode.
 ghost use Rattle.std.specs.Prelude.{◌≡◌, ◌≤◌, length};
 ghost use Rattle.rdm_line.specs.Making.{NewFixture, NewTable, Made};
-ghost use Rattle.rdm_line.specs.Table.{among, distinct};
 
 use crate::line::{PLACES, RdmLine};
 use crate::mode::Mode;
+use arrayvec::ArrayVec;
 use fixtures::fixture::Fixture;
 use keys::uid::Uid;
+use lines::twice::has_twice;
 use refusals::Refusal;
 
 // How many slots there are, and so how many a fixture can take.
 const WIDEST: u32 = 512;
-
-// A place to which no fixture is fitted.
-const EMPTY: Fixture = Fixture {
-    key: Uid {
-        manufacturer: 0,
-        device: 0,
-    },
-    width: 0,
-    address: None,
-    muted: false,
-};
 
 // A fresh fixture of this number and width; none if the number is no key or the width above the limit.
 fn new_fixture(number: u64, width: u32) -> Option<Fixture>
@@ -34,34 +24,17 @@ fn new_fixture(number: u64, width: u32) -> Option<Fixture>
     Some(Fixture::fresh(key, width as u16))
 }
 
-// A table with a fresh fixture for each key and width in its first places; none if there cannot be one of them.
-fn fit(keys: &[u64], widths: &[u32]) -> Option<[Fixture; PLACES]>
+// A fresh fixture for each key and width; none if there cannot be one of them.
+fn fit(keys: &[u64], widths: &[u32]) -> Option<ArrayVec<Fixture, PLACES>>
     requires as_many { length keys.now ≡ length widths.now }
     requires places_for_all { length keys.now ≤ 128 }
     ensures { NewTable keys.now widths.now result }
 {
-    let mut places = [EMPTY; PLACES];
-    for i in 0..keys.len() {
-        places[i] = new_fixture(keys[i], widths[i])?;
+    let mut fixtures = ArrayVec::new();
+    for (key, width) in keys.iter().zip(widths) {
+        fixtures.push(new_fixture(*key, *width)?);
     }
-    Some(places)
-}
-
-fn is_among(key: u64, keys: &[u64]) -> bool
-    ensures { result ≡ among key keys.now }
-{
-    keys.contains(&key)
-}
-
-fn are_distinct(keys: &[u64]) -> bool
-    ensures { result ≡ distinct keys.now }
-{
-    for i in 0..keys.len() {
-        if is_among(keys[i], &keys[i + 1..]) {
-            return false;
-        }
-    }
-    true
+    Some(fixtures)
 }
 
 impl RdmLine {
@@ -73,21 +46,16 @@ impl RdmLine {
         if keys.len() != widths.len() {
             return Err(Refusal::Malformed);
         }
-        let Some(mode) = Mode::from_number(mode) else {
-            return Err(Refusal::AboveLimit);
-        };
+        let mode = Mode::try_from(mode)?;
         if keys.len() > PLACES {
             return Err(Refusal::AboveLimit);
         }
-        let Some(fixtures) = fit(keys, widths) else {
-            return Err(Refusal::AboveLimit);
-        };
-        if !are_distinct(keys) {
+        let fixtures = fit(keys, widths).ok_or(Refusal::AboveLimit)?;
+        if has_twice(keys) {
             return Err(Refusal::KeyTwice);
         }
         Ok(RdmLine {
             fixtures,
-            count: keys.len(),
             mode,
             live: true,
         })
