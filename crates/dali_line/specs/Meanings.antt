@@ -12,6 +12,7 @@ use Rattle.keys.specs.RandomAddress.{random_number, random_rank}
 use Rattle.keys.specs.declared.address.Address.{Address}
 use Rattle.keys.specs.declared.random_address.RandomAddress.{RandomAddress}
 use Rattle.dali.specs.declared.short_address.ShortAddress.{ShortAddress}
+use Rattle.lines.proofs.Meanings.{some_mapped}
 use Rattle.lines.specs.Meaning.{Fitted, Meaning, Sound, SoundFixture}
 use Rattle.lines.specs.Rules.{with_awake, with_address, changed_at, roused, rested, hush_answer, hushed, footprint_of, query_answer, wide_there, set_answer, addressed}
 use Rattle.units.specs.State.{is_disabled, is_enabled}
@@ -119,10 +120,6 @@ module _
         (λ b. ((k : RandomAddress) → after.at k ≡ cond b ((changed_at random_rank key g m).at k) (m.at k)) → after ≡ cond b (changed_at random_rank key g m) m)
         [ true ↦ λ at. same_meaning after (changed_at random_rank key g m) refl at | false ↦ λ at. same_meaning after m refl at ]
         each
-
-some_mapped : {A B : Type 0} (f : A → B) (o : Option A) → is_some (option_map f o) ≡ is_some o
-some_mapped f (Some x) = refl
-some_mapped f None = refl
 
 pub means_hushed : (key : RandomAddress) (line : DaliLine) (units : List Unit) → units ≡ changed (withdrawn_at (random_number key)) line
     → meaning_with line.live units ≡ hushed random_rank (line_meaning line) key

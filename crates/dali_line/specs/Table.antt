@@ -1,6 +1,6 @@
 -- The units of a line.
-use Rattle.std.specs.Prelude.{ℕ, Bool, cond, not, List, [], ◌∷◌, Some, None, Option, ◌==◌}
-use Rattle.std.specs.List.{list_all}
+use Rattle.std.specs.Prelude.{ℕ, Bool, cond, not, List, Option, ◌==◌}
+use Rattle.std.specs.List.{list_all, find}
 use Rattle.keys.specs.RandomAddress.{random_number}
 use Rattle.keys.specs.declared.random_address.RandomAddress.{RandomAddress}
 use Rattle.units.specs.State.{is_disabled}
@@ -19,5 +19,4 @@ all_fit live us = list_all (fits live) us
 
 -- The unit that has a key.
 abbrev pub unit_at : List Unit → RandomAddress → Option Unit
-unit_at [] k = None
-unit_at (u ∷ us) k = cond (unit_number u == random_number k) (Some u) (unit_at us k)
+unit_at us k = find (λ u. unit_number u == random_number k) us

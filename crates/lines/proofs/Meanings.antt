@@ -1,12 +1,13 @@
 -- What the functions of a line leave of live, fitted and awake.
 use Rattle.std.proofs.Common.{◌≡◌, ℕ, Bool, true, false, cond, not, ◌&&◌, eqb, is_some, Some, None, Option, sym, refl, ap, ◌∙◌}
+use Rattle.std.proofs.Math.Bool.{and-true, and-false}
 use Rattle.std.proofs.lemmas.Bool.{eqb-true}
 use Rattle.std.specs.Option.{option_map}
 use Rattle.keys.specs.declared.address.Address.{Address}
 use Rattle.lines.specs.Meaning.{Fitted, Meaning, is_fitted, is_awake, awake_there}
 use Rattle.lines.specs.Rules.{with_awake, with_address, changed_at, roused, rested, hush_answer, hushed, set_answer, addressed}
 
-some_mapped : {A B : Type 0} (f : A → B) (o : Option A) → is_some (option_map f o) ≡ is_some o
+pub some_mapped : {A B : Type 0} (f : A → B) (o : Option A) → is_some (option_map f o) ≡ is_some o
 some_mapped f (Some x) = refl
 some_mapped f None = refl
 
@@ -17,14 +18,6 @@ awake_mapped b None = refl
 awake_addressed : (a : Address) (o : Option Fitted) → awake_there (option_map (with_address a) o) ≡ awake_there o
 awake_addressed a (Some f) = refl
 awake_addressed a None = refl
-
-and_true : (b : Bool) → (b && true) ≡ b
-and_true true = refl
-and_true false = refl
-
-and_false : (b : Bool) → (b && false) ≡ false
-and_false true = refl
-and_false false = refl
 
 module _ {K : Type 0} (m : Meaning K) where
   pub live_roused : (roused m).live ≡ true
@@ -37,7 +30,7 @@ module _ {K : Type 0} (m : Meaning K) where
 
   pub awake_roused : (k : K) → is_awake (roused m) k ≡ is_fitted m k
   unfolding roused
-  awake_roused k = awake_mapped true (m.at k) ∙ and_true _
+  awake_roused k = awake_mapped true (m.at k) ∙ and-true _
 
   pub live_rested : (rested m).live ≡ false
   unfolding rested
@@ -49,7 +42,7 @@ module _ {K : Type 0} (m : Meaning K) where
 
   pub awake_rested : (k : K) → is_awake (rested m) k ≡ false
   unfolding rested
-  awake_rested k = awake_mapped false (m.at k) ∙ and_false _
+  awake_rested k = awake_mapped false (m.at k) ∙ and-false _
 
 module _ {K : Type 0} (rank : K → ℕ) (m : Meaning K) (k : K) where
   by_live : (yes : Bool) (f : Fitted → Fitted) → (cond yes (changed_at rank k f m) m).live ≡ m.live
@@ -78,7 +71,7 @@ module _ {K : Type 0} (rank : K → ℕ) (m : Meaning K) (k : K) where
   awake_hushed j = by (hush_answer m k) (eqb (rank j) (rank k))
     where
       asleep : (t : Bool) → awake_there (cond t (option_map (with_awake false) (m.at j)) (m.at j)) ≡ cond t false (is_awake m j)
-      asleep true = awake_mapped false (m.at j) ∙ and_false _
+      asleep true = awake_mapped false (m.at j) ∙ and-false _
       asleep false = refl
 
       by : (yes t : Bool) → is_awake (cond yes (record { live = m.live; at = λ i. cond (eqb (rank i) (rank k)) (option_map (with_awake false) (m.at i)) (m.at i) }) m) j ≡ cond (yes && eqb (rank j) (rank k)) false (is_awake m j)
@@ -111,10 +104,10 @@ module _ {K : Type 0} (rank : K → ℕ) (same : (x y : K) → rank x ≡ rank y
   answer_roused = rw (live_roused m, fitted_roused m key)
 
   but_itself : (yes t fitted : Bool) → (t ≡ true → fitted ≡ yes) → cond (yes && t) false fitted ≡ (fitted && not t)
-  but_itself true true fitted e = sym (and_false fitted)
-  but_itself true false fitted e = sym (and_true fitted)
-  but_itself false true fitted e = e refl ∙ sym (and_false fitted)
-  but_itself false false fitted e = sym (and_true fitted)
+  but_itself true true fitted e = sym (and-false fitted)
+  but_itself true false fitted e = sym (and-true fitted)
+  but_itself false true fitted e = e refl ∙ sym (and-false fitted)
+  but_itself false false fitted e = sym (and-true fitted)
 
   pub awake_but_one : (k : K) → is_awake (hushed rank (roused m) key) k ≡ (is_fitted m k && not (eqb (rank k) (rank key)))
   awake_but_one k =

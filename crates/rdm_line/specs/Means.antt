@@ -1,5 +1,6 @@
 -- What an RDM line means, read off its table.
-use Rattle.std.specs.Prelude.{Bool, cond, not, List, [], ◌∷◌, Some, None, Option, ◌==◌}
+use Rattle.std.specs.Prelude.{Bool, not, List, Option, ◌==◌}
+use Rattle.std.specs.List.{find}
 use Rattle.std.specs.Option.{option_map}
 use Rattle.keys.specs.Uid.{uid_number}
 use Rattle.keys.specs.declared.uid.Uid.{Uid}
@@ -13,8 +14,7 @@ has_key key f = uid_number key == uid_number f.key
 
 -- The fixture that has a key.
 abbrev pub fixture_at : List Fixture → Uid → Option Fixture
-fixture_at [] key = None
-fixture_at (f ∷ fs) key = cond (has_key key f) (Some f) (fixture_at fs key)
+fixture_at fs key = find (has_key key) fs
 
 -- A fixture takes part in a search while it is not muted.
 abbrev pub seen : Fixture → Fitted

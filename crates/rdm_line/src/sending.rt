@@ -13,10 +13,10 @@ fn speak_to(fixture: &mut Fixture, frame: &[u8]) -> Cable
     ensures signal { signal_on result ≡ reply_to frame.now fixture.old }
 {
     let sender = fixture.key;
-    match fixture.react(frame) {
-        Some(message) => Cable::Carries(Sent { message, sender }),
-        None => Cable::Quiet,
-    }
+    fixture.react(frame).map_or(
+        Cable::Quiet,
+        |message| Cable::Carries(Sent { message, sender }),
+    )
 }
 
 // Lends a frame to every fixture of a table, and answers what is then on the cable.
@@ -25,6 +25,7 @@ pub fn send(fixtures: &mut [Fixture], frame: &[u8], mode: Mode) -> Cable
     ensures signal { signal_on result ≡ replies_to mode frame.now fixtures.old }
 {
     let mut cable = Cable::Quiet;
+    // A loop: it changes each fixture, which the proof of a chain does not see.
     for fixture in fixtures.iter_mut() {
         cable = cable.join(mode, speak_to(fixture, frame));
     }

@@ -12,6 +12,7 @@ pub fn send(units: &mut [Unit], bus: &mut Bus, frame: Frame) -> Received
 {
     let bytes = frame.bytes();
     let mut received = Received::Nothing;
+    // A loop: it changes each unit, which the proof of a chain does not see.
     for unit in units.iter_mut() {
         received = received.with(unit.hear(bytes, bus));
     }
