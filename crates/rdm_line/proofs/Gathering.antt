@@ -1,6 +1,6 @@
 -- Replies that come one after the other.
-use Rattle.std.proofs.Common.{◌≡◌, ℕ, ◌+◌, ◌<◌, ◌≤◌, List, ◌∷◌, ◌++◌, map, length, get_or, take, drop, sym, refl, ap, ◌∙◌, arith}
-use Rattle.std.proofs.lemmas.List.{drop_more, drop_all, get_or_at, length-map, length-take}
+use Rattle.std.proofs.Common.{◌≡◌, ℕ, ◌+◌, ◌<◌, List, ◌∷◌, ◌++◌, map, length, get_or, take, drop, sym, refl, ap, ◌∙◌, arith}
+use Rattle.std.proofs.lemmas.List.{drop_more, get_or_at, length-map, length-take}
 use Rattle.fixtures.specs.declared.fixture.Fixture.{Fixture}
 use Rattle.rdm_line.specs.Cable.{Signal, quiet, carrying, noise, joined}
 use Rattle.rdm_line.specs.Sending.{reply_to, gathered}
@@ -29,10 +29,6 @@ module _ (mode : Mode) (frame : List ℕ) (g : Fixture → Fixture) (fs : List F
       ap (λ v. gathered mode v (map (reply_to frame) (drop (i + 1) fs))) (both ∙ ap (joined mode s) (reply ∙ ap (reply_to frame) (sym is)))
       ∙ ap (λ xs. gathered mode s (map (reply_to frame) xs)) (sym next)
       ∙ before
-
-  -- Every reply has come.
-  pub gathered_all : (i : ℕ) (s : Signal) → length fs ≤ i → gathered mode s (map (reply_to frame) (drop i fs)) ≡ whole → s ≡ whole
-  gathered_all i s end before = ap (λ xs. gathered mode s (map (reply_to frame) xs)) (sym (drop_all i fs end)) ∙ before
 
 -- Silence changes nothing.
 pub joined_quiet : (mode : Mode) (s : Signal) → joined mode s quiet ≡ s
