@@ -13,6 +13,7 @@ use Rattle.units.specs.Bus.{fresh_bus}
 use Rattle.units.specs.Unit.{fresh_unit}
 use Rattle.units.specs.declared.unit.Unit.{Unit}
 use Rattle.dali_line.specs.Meaning.{fitted_units}
+use Rattle.dali_line.specs.Table.{unit_number}
 use Rattle.dali_line.specs.declared.line.DaliLine.{DaliLine}
 
 -- A unit takes exactly one address.
@@ -31,9 +32,14 @@ making_refusal numbers widths mode =
     (cond (above_limit numbers widths mode) (Some AboveLimit) (cond (has_twice numbers) (Some KeyTwice) None))
     (Some Malformed)
 
+-- A unit of the same key as it is made.
+abbrev pub as_made : Unit → Unit
+as_made u = fresh_unit u.key
+
 -- Fresh units whose keys have these numbers, in their order.
-abbrev pub FittedInto : List ℕ → List Unit → Type 0
-FittedInto numbers units = (keys : List RandomAddress) × (map random_number keys ≡ numbers) × (units ≡ map fresh_unit keys)
+pub record FittedInto (numbers : List ℕ) (units : List Unit) : Type 0 where
+  pub keys_in_order : map unit_number units ≡ numbers
+  pub fresh : map as_made units ≡ units
 
 -- r is a table of such units, if each of the numbers is one of a key.
 abbrev pub Fitted : List ℕ → Option (ArrayVec Unit) → Type 0

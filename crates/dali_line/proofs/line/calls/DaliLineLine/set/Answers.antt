@@ -4,7 +4,7 @@ use Rattle.keys.specs.RandomAddress.{random_number}
 use Rattle.dali.proofs.Frames.{same_short}
 use Rattle.dali_line.specs.Calls.{changed}
 use Rattle.dali_line.specs.Controller.{addressed_at}
-use Rattle.dali_line.specs.Meanings.{means_addressed, means_not_addressed, one_told_is, short_in_family, set_answer_is, set_answer_no}
+use Rattle.dali_line.specs.Meanings.{means_addressed, means_not_addressed, one_told_is, short_in_family, set_answer_is}
 use Rattle.dali_line.proofs.Standing.{stands_addressed}
 use Rattle.dali_line.proofs.line.calls.DaliLineLine.set.Goals as goal
 
@@ -32,14 +32,5 @@ returns-in-Some c =
       };
     }
 
-pub returns-in-None : goal.returns-in-None
-returns-in-None c =
-    let line = c.args.self.now in
-    let key = c.args.key in
-    let address = c.args.address in
-    let outside = c.in-None.ensures in
-    record {
-      answer = sym (set_answer_no key address line outside);
-      after = means_not_addressed key address line outside;
-      table_and_bus_after = record { sent = λ b same. absurd (both_ways _ outside (short_in_family b address same)); not_sent = λ _. refl };
-    }
+pub returns-in-None-clause-after : goal.returns-in-None-clause-after
+returns-in-None-clause-after c = means_not_addressed c.args.key c.args.address c.args.self.now c.in-None.ensures
