@@ -1,14 +1,10 @@
-use Rattle.std.proofs.Common.{◌≡◌, ◌++◌, get_or, take, set, sym, refl, ap, ◌∙◌, rules}
+use Rattle.std.proofs.Common.{◌≡◌, ◌++◌, get_or, take, set, sym, ap, ◌∙◌}
 use Rattle.std.specs.Option.{option_to_list}
 use Rattle.std.proofs.lemmas.List.Edits.{map_over_more}
-use Rattle.std.proofs.lemmas.List.{take_all, drop_all}
 use Rattle.units.specs.Received.{received, replies}
 use Rattle.units.specs.Unit.{unit_after, unit_reply}
 use Rattle.units.proofs.Loops.{not_changed_yet, gathered_more}
 use Rattle.units.proofs.send.send.Goals as goal
-
-pub loop-unit-init : goal.loop-unit-init
-loop-unit-init c frame same = (refl, refl)
 
 pub loop-unit-preserved : goal.loop-unit-preserved
 loop-unit-preserved c frame same =
@@ -30,18 +26,3 @@ loop-unit-preserved c frame same =
           ∙ ap (λ reply. received (replies bus frame (take i units) ++ option_to_list reply)) reply
           ∙ ap received (gathered_more (λ u. option_to_list (unit_reply bus frame u)) units i unit within read),
     )
-
-pub returns : goal.returns
-returns c =
-    let units = c.args.units.now in
-    let bus = c.args.bus.now in
-    let frame = c.args.frame in
-    let i = c.loop-unit.unit-index in
-    let same = sym c.bytes-bytes.ensures in
-    let (changed, heard) = c.loop-unit.invariant frame same in
-    let whole : take i units ≡ units = take_all i units c.loop-unit-test.false in
-    record {
-      answer = heard ∙ ap (λ us. received (replies bus frame us)) whole;
-      units_then = search (rules, take_all, drop_all);
-      bus_then = c.hear-2.ensures frame same;
-    }
