@@ -33,9 +33,6 @@ impl Call {
     pub fn is_open(self) -> bool
         ensures { result ≡ is_open self }
     {
-        match self {
-            Call::Open => true,
-            Call::Again | Call::Run(_) | Call::Lay | Call::Commit | Call::Close => false,
-        }
+        matches!(self, Call::Open)
     }
 }

@@ -1,59 +1,19 @@
 -- Where rows are and go.
-use Rattle.std.proofs.Common.{◌≡◌, ℕ, suc, ◌+◌, ◌-◌, ◌<◌, ◌≤◌, min, Bool, true, false, cond, ◌||◌, eqb, ltb, List, [], ◌∷◌, ◌++◌, length, get_or, take, drop, set, sym, refl, ap, ◌∙◌, one-add, arith}
+use Rattle.std.proofs.Common.{◌≡◌, ℕ, suc, ◌+◌, ◌-◌, ◌<◌, ◌≤◌, Bool, true, false, cond, ◌||◌, eqb, ltb, List, [], ◌∷◌, ◌++◌, length, take, drop, set, sym, refl, ap, ◌∙◌, one-add, arith}
 use borrow.Rule.Slice.PartMut.{put_mid}
-use Rattle.std.proofs.lemmas.List.{append_assoc, at_drop_more, at_drop_all, get_or-take, length-take, length-take-le, length-drop, length-append, set_split, drop-append-le, take_at, drop_at, take-set-le, take-take, drop-drop, drop-set-lt}
-use Rattle.std.specs.List.{insert}
+use Rattle.std.proofs.lemmas.List.{append_assoc, length-take-le, length-drop, length-append, set_split, drop-append-le, take_at, drop_at, take-set-le, take-take, drop-drop, drop-set-lt}
+use Rattle.std.specs.List.{insert, list_any}
 use Rattle.std.proofs.lemmas.List.Edits.{length-insert}
-use Rattle.std.proofs.lemmas.List.Sums.{prefix_len-drop_yes, prefix_len-drop_no, prefix_len-drop_all, prefix_len-le-length}
+use Rattle.std.proofs.lemmas.List.Sums.{prefix_len-le-length}
 use Rattle.walk_law.specs.Ranks.{is_in, put_in}
 use Rattle.records.specs.Rows.{row_ranks, new_record, place_of, with_key}
 use Rattle.records.specs.declared.record.Record.{Record}
 
-module _ {K : Type 0} (rank : K → ℕ) (j : ℕ) (rows : List (Record K)) (i : ℕ) where
-  -- Whether a rank is in the rows from here on: it is this one, or among those behind it.
-  pub in_next : (row : Record K) → row ≡ get_or rows i row → i < length rows
-      → is_in j (row_ranks rank (drop i rows)) ≡ (eqb j (rank row.key) || is_in j (row_ranks rank (drop (i + 1) rows)))
-  unfolding is_in
-  in_next row is within =
-      at_drop_more (λ (xs : List (Record K)). is_in j (row_ranks rank xs)) rows i row within
-      ∙ ap (λ (x : Record K). eqb j (rank x.key) || is_in j (row_ranks rank (drop (i + 1) rows))) (sym is)
-
-  pub in_none : length rows ≤ i → is_in j (row_ranks rank (drop i rows)) ≡ false
-  unfolding is_in
-  in_none past = at_drop_all (λ (xs : List (Record K)). is_in j (row_ranks rank xs)) rows i past
-
--- The place of a rank among so many rows of some memory, looked for from the first on.
-module _ {K : Type 0} (rank : K → ℕ) (j : ℕ) (memory : List (Record K)) (count i : ℕ) where
-  abbrev rows : List (Record K)
-  rows = take count memory
-
-  abbrev below : Record K → Bool
-  below row = ltb (rank row.key) j
-
-  module _ (d : Record K) (within : i < min count (length memory)) where
-    at_row : get_or rows i d ≡ get_or memory i d
-    at_row = get_or-take count memory i d (omega arith)
-
-    in_rows : i < length rows
-    in_rows = simp length-take (omega arith)
-
-    pub place_further : below (get_or memory i d) ≡ true
-        → i + place_of rank j (drop i rows) ≡ place_of rank j rows
-        → i + 1 + place_of rank j (drop (i + 1) rows) ≡ place_of rank j rows
-    place_further is so_far =
-        let step = prefix_len-drop_yes below rows i d in_rows (ap below at_row ∙ is) in
-        omega arith
-
-    pub place_here : below (get_or memory i d) ≡ false → i + place_of rank j (drop i rows) ≡ place_of rank j rows → i ≡ place_of rank j rows
-    place_here is so_far =
-        let step = prefix_len-drop_no below rows i d in_rows (ap below at_row ∙ is) in
-        omega arith
-
-  pub place_at_end : min count (length memory) ≤ i → i + place_of rank j (drop i rows) ≡ place_of rank j rows → i ≡ place_of rank j rows
-  place_at_end past so_far =
-      let size = length-take count memory in
-      let step = prefix_len-drop_all below rows i (omega arith) in
-      omega arith
+-- A rank is in the rows if one of them has its key.
+pub in_rows : {K : Type 0} (rank : K → ℕ) (j : ℕ) (rows : List (Record K)) → list_any (λ (row : Record K). eqb j (rank row.key)) rows ≡ is_in j (row_ranks rank rows)
+unfolding is_in
+in_rows rank j [] = refl
+in_rows rank j (row ∷ rows) = ap (λ t. eqb j (rank row.key) || t) (in_rows rank j rows)
 
 -- A record that is written behind so many others and then rotated to its place stands there, and those behind it have
 -- moved up by one.

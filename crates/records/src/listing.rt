@@ -7,30 +7,22 @@ use crate::record::Record;
 use keys::family::Family;
 use keys::order::{is_below, is_same};
 
+// These two go through the rows from the first on. To halve them would ask that they ascend, which holds of a book's and need
+// not of the rows that they are called with.
+
 // Whether a key is in one of the rows.
 pub fn is_listed<K: Family>(rows: &[Record<K>], key: K) -> bool
     ensures { result ≡ is_in (K.Family.rank key) (row_ranks K.Family.rank rows.now) }
 {
-    for row in rows {
-        if is_same(key, row.key) {
-            return true;
-        }
-    }
-    false
+    rows.iter().any(|row| is_same(key, row.key))
 }
 
-// Where a key belongs among so many rows: before the first row whose key is not below it.
-fn place<K: Family>(memory: &[Record<K>], count: usize, key: K) -> usize
-    ensures value { result ≡ place_of K.Family.rank (K.Family.rank key) (take count memory.now) }
-    ensures bound { result ≤ count }
+// Where a key belongs: behind the first rows, as long as their keys are below it.
+fn place<K: Family>(rows: &[Record<K>], key: K) -> usize
+    ensures value { result ≡ place_of K.Family.rank (K.Family.rank key) rows.now }
+    ensures bound { result ≤ length rows.now }
 {
-    let end = count.min(memory.len());
-    for i in 0..end {
-        if !is_below(memory[i].key, key) {
-            return i;
-        }
-    }
-    end
+    rows.iter().take_while(|row| is_below(row.key, key)).count()
 }
 
 // Lists a key among so many rows at the beginning of some memory; those behind it move up by one. Answers whether there was
@@ -42,8 +34,8 @@ pub fn list<K: Family>(memory: &mut [Record<K>], count: usize, key: K) -> bool
     if count >= memory.len() {
         return false;
     }
-    let at = place(memory, count, key);
+    let at = place(&memory[..count], key);
     memory[count] = Record::new(key);
-    memory[at..count + 1].rotate_right(1);
+    memory[at..=count].rotate_right(1);
     true
 }

@@ -116,7 +116,7 @@ module _ {K : Type 0} (rank : K → ℕ) (levels top places : ℕ) (laws : Laws 
         let above = subst (λ (x : Range ℕ). NoneAwakeBelow rank m (suc x.hi)) (sym e) (none_in_silent rank m range Silent honest none refl) in
         drop_it rs w above
     after_honest_probe range (Clear k) e honest w =
-        let loud = λ (none : NoneAwakeBelow rank m (suc r.hi)). some_in_loud rank m range (Clear k) honest (λ is. let z : ◌≡◌ {A = ℕ} 0 1 = cc in omega arith) (subst (λ (x : Range ℕ). NoneAwakeBelow rank m (suc x.hi)) e none) in
+        let loud = λ (none : NoneAwakeBelow rank m (suc r.hi)). some_in_loud rank m range (Clear k) honest (λ is. cc) (subst (λ (x : Range ℕ). NoneAwakeBelow rank m (suc x.hi)) e none) in
         cond_both (is_one r) _ _ (Stands rank levels top places m) (hush_the_one w loud)
         (λ t. cond_both (in_range (rank k) r && not (is_in (rank k) listed)) _ _ (Stands rank levels top places m)
         (λ u. let p = and_parts _ _ u in let q = and_parts _ _ p.0 in
@@ -124,7 +124,7 @@ module _ {K : Type 0} (rank : K → ℕ) (levels top places : ℕ) (laws : Laws 
         (leb-true _ _ q.0, leb-true _ _ q.1, not-true _ p.1, loud))
         (λ _. split_it None w loud t))
     after_honest_probe range Garbled e honest w =
-        let loud = λ (none : NoneAwakeBelow rank m (suc r.hi)). some_in_loud rank m range Garbled honest (λ is. let z : ◌≡◌ {A = ℕ} 0 1 = cc in omega arith) (subst (λ (x : Range ℕ). NoneAwakeBelow rank m (suc x.hi)) e none) in
+        let loud = λ (none : NoneAwakeBelow rank m (suc r.hi)). some_in_loud rank m range Garbled honest (λ is. cc) (subst (λ (x : Range ℕ). NoneAwakeBelow rank m (suc x.hi)) e none) in
         cond_both (is_one r) _ _ (Stands rank levels top places m) (hush_the_one w loud) (split_it None w loud)
 
     module _ (k : K) (w : Walks rank levels top places m r rs (Some (rank k)) listed questions) where
@@ -203,13 +203,13 @@ module _ {K : Type 0} (rank : K → ℕ) (levels top places : ℕ) (laws : Laws 
         ∙ ap (λ i. heard places (walking r rs (Some i) listed questions) (answer.Hush (hush_answer m k))) e in
         let heard_is = is' ∙ hush_is_heard m r rs listed questions (rank k) (hush_answer m k) w' in
         subst (λ x. Stands rank levels top places x v) (sym same) (subst (Stands rank levels top places (hushed rank m k)) (sym heard_is) done)
-    step_by_parts Walking (r ∷ rs) None listed questions w a (to_hush k asks told same) is = absurd (let z : ◌≡◌ {A = ℕ} 0 1 = cc in omega arith)
-    step_by_parts Walking (r ∷ rs) (Some j) listed questions w a (to_probe range p asks honest told same) is = absurd (let z : ◌≡◌ {A = ℕ} 0 1 = cc in omega arith)
+    step_by_parts Walking (r ∷ rs) None listed questions w a (to_hush k asks told same) is = cc
+    step_by_parts Walking (r ∷ rs) (Some j) listed questions w a (to_probe range p asks honest told same) is = cc
     step_by_parts Walking [] hushing listed questions w a honest is = absurd w
-    step_by_parts Walked pending hushing listed questions w a (to_probe range p asks honest told same) is = absurd (let z : ◌≡◌ {A = ℕ} 0 1 = cc in omega arith)
-    step_by_parts Walked pending hushing listed questions w a (to_hush k asks told same) is = absurd (let z : ◌≡◌ {A = ℕ} 0 1 = cc in omega arith)
-    step_by_parts Full pending hushing listed questions w a (to_probe range p asks honest told same) is = absurd (let z : ◌≡◌ {A = ℕ} 0 1 = cc in omega arith)
-    step_by_parts Full pending hushing listed questions w a (to_hush k asks told same) is = absurd (let z : ◌≡◌ {A = ℕ} 0 1 = cc in omega arith)
+    step_by_parts Walked pending hushing listed questions w a (to_probe range p asks honest told same) is = cc
+    step_by_parts Walked pending hushing listed questions w a (to_hush k asks told same) is = cc
+    step_by_parts Full pending hushing listed questions w a (to_probe range p asks honest told same) is = cc
+    step_by_parts Full pending hushing listed questions w a (to_hush k asks told same) is = cc
     step_by_parts Laid pending hushing listed questions w a honest is = absurd w
     step_by_parts Set pending hushing listed questions w a honest is = absurd w
     step_by_parts Contradicted pending hushing listed questions w a honest is = absurd w
@@ -249,13 +249,13 @@ module _ {K : Type 0} (rank : K → ℕ) (levels top places : ℕ) (laws : Laws 
       ∙ ap (λ x. heard places (walking r rs (Some j) listed questions) (answer_ranks rank x)) told
       ∙ hush_is_heard m r rs listed questions j (hush_answer m k) w)
       ∙ hush_counts j r rs (hush_answer m k) (walking r rs (Some j) listed questions)
-  counts_by_parts m n v Walking (r ∷ rs) None listed questions w a (to_hush k asks told same) is = absurd (let z : ◌≡◌ {A = ℕ} 0 1 = cc in omega arith)
-  counts_by_parts m n v Walking (r ∷ rs) (Some j) listed questions w a (to_probe range p asks honest told same) is = absurd (let z : ◌≡◌ {A = ℕ} 0 1 = cc in omega arith)
+  counts_by_parts m n v Walking (r ∷ rs) None listed questions w a (to_hush k asks told same) is = cc
+  counts_by_parts m n v Walking (r ∷ rs) (Some j) listed questions w a (to_probe range p asks honest told same) is = cc
   counts_by_parts m n v Walking [] hushing listed questions w a honest is = absurd w
-  counts_by_parts m n v Walked pending hushing listed questions w a (to_probe range p asks honest told same) is = absurd (let z : ◌≡◌ {A = ℕ} 0 1 = cc in omega arith)
-  counts_by_parts m n v Walked pending hushing listed questions w a (to_hush k asks told same) is = absurd (let z : ◌≡◌ {A = ℕ} 0 1 = cc in omega arith)
-  counts_by_parts m n v Full pending hushing listed questions w a (to_probe range p asks honest told same) is = absurd (let z : ◌≡◌ {A = ℕ} 0 1 = cc in omega arith)
-  counts_by_parts m n v Full pending hushing listed questions w a (to_hush k asks told same) is = absurd (let z : ◌≡◌ {A = ℕ} 0 1 = cc in omega arith)
+  counts_by_parts m n v Walked pending hushing listed questions w a (to_probe range p asks honest told same) is = cc
+  counts_by_parts m n v Walked pending hushing listed questions w a (to_hush k asks told same) is = cc
+  counts_by_parts m n v Full pending hushing listed questions w a (to_probe range p asks honest told same) is = cc
+  counts_by_parts m n v Full pending hushing listed questions w a (to_hush k asks told same) is = cc
   counts_by_parts m n v Laid pending hushing listed questions w a honest is = absurd w
   counts_by_parts m n v Set pending hushing listed questions w a honest is = absurd w
   counts_by_parts m n v Contradicted pending hushing listed questions w a honest is = absurd w

@@ -1,5 +1,5 @@
 -- What an honest answer lists.
-use Rattle.std.proofs.Common.{◌≡◌, ℕ, ◌^◌, ◌<◌, ◌≤◌, Bool, true, false, cond, not, ◌&&◌, ltb, List, [], ◌∷◌, length, Some, None, Option, sym, refl, ap, ◌∙◌, subst, arith}
+use Rattle.std.proofs.Common.{◌≡◌, ℕ, ◌^◌, ◌<◌, ◌≤◌, Bool, true, false, cond, not, ◌&&◌, ltb, List, [], ◌∷◌, length, Some, None, Option, sym, refl, ap, ◌∙◌, subst}
 use Rattle.std.proofs.lemmas.Bool.{cond_both, lt-leb, ltb-true, and_parts, both_ways}
 use Rattle.keys.specs.declared.range.Range.{Range}
 use Rattle.lines.specs.Meaning.{Meaning}
@@ -98,13 +98,13 @@ module _ {K : Type 0} (rank : K → ℕ) (levels top places : ℕ) (laws : Laws 
       let w' = subst (λ i. Walks rank levels top places m r rs (Some i) listed questions) e w in
       subst (λ x. Outcome rank places (walking r rs (Some j) listed questions) (answer_ranks rank x)) (sym told)
       (subst (λ i. Outcome rank places (walking r rs (Some i) listed questions) (answer.Hush (hush_answer m k))) (sym e) (by_hush r rs listed questions k (hush_answer m k) w'))
-  by_parts Walking (r ∷ rs) None listed questions w a (to_hush k asks told same) = absurd (let z : ◌≡◌ {A = ℕ} 0 1 = cc in omega arith)
-  by_parts Walking (r ∷ rs) (Some j) listed questions w a (to_probe range p asks honest told same) = absurd (let z : ◌≡◌ {A = ℕ} 0 1 = cc in omega arith)
+  by_parts Walking (r ∷ rs) None listed questions w a (to_hush k asks told same) = cc
+  by_parts Walking (r ∷ rs) (Some j) listed questions w a (to_probe range p asks honest told same) = cc
   by_parts Walking [] hushing listed questions w a honest = absurd w
-  by_parts Walked pending hushing listed questions w a (to_probe range p asks honest told same) = absurd (let z : ◌≡◌ {A = ℕ} 0 1 = cc in omega arith)
-  by_parts Walked pending hushing listed questions w a (to_hush k asks told same) = absurd (let z : ◌≡◌ {A = ℕ} 0 1 = cc in omega arith)
-  by_parts Full pending hushing listed questions w a (to_probe range p asks honest told same) = absurd (let z : ◌≡◌ {A = ℕ} 0 1 = cc in omega arith)
-  by_parts Full pending hushing listed questions w a (to_hush k asks told same) = absurd (let z : ◌≡◌ {A = ℕ} 0 1 = cc in omega arith)
+  by_parts Walked pending hushing listed questions w a (to_probe range p asks honest told same) = cc
+  by_parts Walked pending hushing listed questions w a (to_hush k asks told same) = cc
+  by_parts Full pending hushing listed questions w a (to_probe range p asks honest told same) = cc
+  by_parts Full pending hushing listed questions w a (to_hush k asks told same) = cc
   by_parts Laid pending hushing listed questions w a honest = absurd w
   by_parts Set pending hushing listed questions w a honest = absurd w
   by_parts Contradicted pending hushing listed questions w a honest = absurd w

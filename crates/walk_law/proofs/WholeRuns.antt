@@ -119,13 +119,13 @@ module _ {K : Type 0} (rank : K → ℕ) (levels top places : ℕ) (laws : Laws 
       let fits = w.book.fits in
       let grows : suc (length listed) * (3 * levels + 2) ≤ suc places * (3 * levels + 2) = mul-le-mul {n₂ = suc places} {m₂ = 3 * levels + 2} (omega arith) (omega arith) in
       record {
-        walked_lists_every_fitted_key_once = λ is. absurd (let z : ◌≡◌ {A = ℕ} 0 1 = cc in omega arith);
+        walked_lists_every_fitted_key_once = λ is. cc;
         asks_few_questions = omega arith;
         walking_has_a_question = λ _. asks hushing;
         still_walking_asked_less = λ _. omega arith;
         ends_walked_or_full = inl refl;
-        full_if_more_fitted_than_places = λ is. absurd (let z : ◌≡◌ {A = ℕ} 0 1 = cc in omega arith);
-        walked_if_not_more_fitted = λ is. absurd (let z : ◌≡◌ {A = ℕ} 0 1 = cc in omega arith);
+        full_if_more_fitted_than_places = λ is. cc;
+        walked_if_not_more_fitted = λ is. cc;
       }
     where
       asks : (h : Option ℕ) → is_some (asked_in Walking (r ∷ rs) h) ≡ true
@@ -134,20 +134,20 @@ module _ {K : Type 0} (rank : K → ℕ) (levels top places : ℕ) (laws : Laws 
   law_by_parts m Walked pending hushing listed questions f = record {
     walked_lists_every_fitted_key_once = λ _. lists_exactly m listed questions f;
     asks_few_questions = f.few;
-    walking_has_a_question = λ is. absurd (let z : ◌≡◌ {A = ℕ} 0 1 = cc in omega arith);
-    still_walking_asked_less = λ is. absurd (let z : ◌≡◌ {A = ℕ} 0 1 = cc in omega arith);
+    walking_has_a_question = λ is. cc;
+    still_walking_asked_less = λ is. cc;
     ends_walked_or_full = inr (inl refl);
-    full_if_more_fitted_than_places = λ is. absurd (let z : ◌≡◌ {A = ℕ} 0 1 = cc in omega arith);
+    full_if_more_fitted_than_places = λ is. cc;
     walked_if_not_more_fitted = λ _. not_more_fitted m listed questions f;
   }
   law_by_parts m Full pending hushing listed questions o = record {
-    walked_lists_every_fitted_key_once = λ is. absurd (let z : ◌≡◌ {A = ℕ} 0 1 = cc in omega arith);
+    walked_lists_every_fitted_key_once = λ is. cc;
     asks_few_questions = o.few;
-    walking_has_a_question = λ is. absurd (let z : ◌≡◌ {A = ℕ} 0 1 = cc in omega arith);
-    still_walking_asked_less = λ is. absurd (let z : ◌≡◌ {A = ℕ} 0 1 = cc in omega arith);
+    walking_has_a_question = λ is. cc;
+    still_walking_asked_less = λ is. cc;
     ends_walked_or_full = inr (inr refl);
     full_if_more_fitted_than_places = λ _. more_fitted m listed questions o;
-    walked_if_not_more_fitted = λ is. absurd (let z : ◌≡◌ {A = ℕ} 0 1 = cc in omega arith);
+    walked_if_not_more_fitted = λ is. cc;
   }
   law_by_parts m Walking [] hushing listed questions w = absurd w
   law_by_parts m Laid pending hushing listed questions w = absurd w

@@ -2,20 +2,20 @@
 ghost use Rattle.std.specs.Prelude.{◌≡◌};
 ghost use Rattle.walk_law.specs.Phases.{phase_number, is_walking};
 
-#[derive(Clone, Copy)]
+#[derive(Clone, Copy, PartialEq, Eq)]
 pub enum Phase {
     // Ranges are pending.
-    Walking,
+    Walking = 0,
     // Every range was walked: the book lists every fixture.
-    Walked,
+    Walked = 1,
     // Every fixture in the book has its address there.
-    Laid,
+    Laid = 2,
     // Every fixture on the line has its address.
-    Set,
+    Set = 3,
     // A fixture was found for which the book has no place.
-    Full,
+    Full = 4,
     // The line answered what no line can answer.
-    Contradicted,
+    Contradicted = 5,
 }
 
 impl Phase {
@@ -23,23 +23,13 @@ impl Phase {
     pub fn number(self) -> u8
         ensures { result ≡ phase_number self }
     {
-        match self {
-            Phase::Walking => 0,
-            Phase::Walked => 1,
-            Phase::Laid => 2,
-            Phase::Set => 3,
-            Phase::Full => 4,
-            Phase::Contradicted => 5,
-        }
+        self as u8
     }
 
     // Whether questions are asked.
     pub fn is_walking(self) -> bool
         ensures { result ≡ is_walking self }
     {
-        match self {
-            Phase::Walking => true,
-            Phase::Walked | Phase::Laid | Phase::Set | Phase::Full | Phase::Contradicted => false,
-        }
+        self == Phase::Walking
     }
 }

@@ -1,4 +1,4 @@
-use Rattle.std.proofs.Common.{suc, cond, ◌++◌, length, take, drop, sym, ap, ◌∙◌, arith}
+use Rattle.std.proofs.Common.{suc, cond, ◌++◌, length, take, drop, length-take-le, sym, ap, ◌∙◌, arith}
 use Rattle.std.proofs.lemmas.Bool.{lt-ltb}
 use Rattle.std.specs.List.{insert}
 use Rattle.records.specs.Rows.{new_record, place_of, with_key}
@@ -14,7 +14,7 @@ returns g c =
     let count = c.args.count in
     let room = lt-ltb count (length memory) (omega arith) in
     let at = c.place-at.result in
-    let put = rotated_in memory count at c.new.result (omega arith) c.place-at.ensures.bound c.rotate_right.new.self c.rotate_right.ensures.after in
+    let put = rotated_in memory count at c.new.result (omega arith) (omega (arith, length-take-le count memory)) c.rotate_right.new.self c.rotate_right.ensures.after in
     let front = take count memory in
     record {
       answer = sym room;
