@@ -112,20 +112,20 @@ module _ {K : Type 0} (rank : K → ℕ) (levels top first count : ℕ) (laws : 
           lists_every_fitted_key_once = λ e. absurd (both_ways false refl e);
           asks_few_questions = subst (λ n. s.walk.questions ≤ most_questions levels n) listed_count law.asks_few_questions;
           complete_only_if_not_more_are_fitted = λ e. absurd (both_ways false refl e);
-          full_only_if_more_are_fitted = λ e. absurd (let z : ◌≡◌ {A = ℕ} 0 1 = cc in omega arith);
-          never_contradicted = λ e. let z : ◌≡◌ {A = ℕ} 0 1 = cc in omega arith;
-          set_on_the_line = λ e. absurd (let z : ◌≡◌ {A = ℕ} 0 1 = cc in omega arith);
+          full_only_if_more_are_fitted = λ e. cc;
+          never_contradicted = λ e. cc;
+          set_on_the_line = λ e. cc;
         }
     of_phase Walked is (st, bare) =
         of_found (subst (λ p. StandsIn rank levels top (places s) p s.walk.pending s.line s.walk.hushing s.walk.listed s.walk.questions) is st) Walked
-        (λ e. let z : ◌≡◌ {A = ℕ} 0 1 = cc in omega arith)
-        (λ e. let z : ◌≡◌ {A = ℕ} 0 1 = cc in omega arith)
-        (λ e. absurd (let z : ◌≡◌ {A = ℕ} 0 1 = cc in omega arith))
+        (λ e. cc)
+        (λ e. cc)
+        (λ e. cc)
     of_phase Laid is w =
-        of_found w.found Laid (λ e. let z : ◌≡◌ {A = ℕ} 0 1 = cc in omega arith) (λ e. let z : ◌≡◌ {A = ℕ} 0 1 = cc in omega arith)
-        (λ e. absurd (let z : ◌≡◌ {A = ℕ} 0 1 = cc in omega arith))
+        of_found w.found Laid (λ e. cc) (λ e. cc)
+        (λ e. cc)
     of_phase Set is w =
-        of_found w.found Set (λ e. let z : ◌≡◌ {A = ℕ} 0 1 = cc in omega arith) (λ e. let z : ◌≡◌ {A = ℕ} 0 1 = cc in omega arith)
+        of_found w.found Set (λ e. cc) (λ e. cc)
         (λ _. addresses_set s.line (rows s) (exactly_of w.found) w.numbered w.enough w.held)
     of_phase Full is (st, bare) =
         let law = stands_finds rank levels top (places s) laws (omega arith) s.line s.walk st in
@@ -134,8 +134,8 @@ module _ {K : Type 0} (rank : K → ℕ) (levels top first count : ℕ) (laws : 
           asks_few_questions = subst (λ n. s.walk.questions ≤ most_questions levels n) listed_count law.asks_few_questions;
           complete_only_if_not_more_are_fitted = λ e. absurd (both_ways false refl e);
           full_only_if_more_are_fitted = λ _. law.full_if_more_fitted_than_places is;
-          never_contradicted = λ e. let z : ◌≡◌ {A = ℕ} 0 1 = cc in omega arith;
-          set_on_the_line = λ e. absurd (let z : ◌≡◌ {A = ℕ} 0 1 = cc in omega arith);
+          never_contradicted = λ e. cc;
+          set_on_the_line = λ e. cc;
         }
     of_phase Contradicted is w = absurd w
 
@@ -149,7 +149,7 @@ module _ {K : Type 0} (rank : K → ℕ) (levels top first count : ℕ) (laws : 
     where
       by : (o : Option Fitted) → m.at k ≡ o → option_map (with_awake false) o ≡ Some f → (g : Fitted) × (m.at k ≡ Some g) × (g.width ≡ f.width) × (g.address ≡ f.address)
       by (Some g) at e = let same : with_awake false g ≡ f = cc in (g, at, ap (λ (x : Fitted). x.width) same, ap (λ (x : Fitted). x.address) same)
-      by None at e = absurd (let z : ◌≡◌ {A = ℕ} 0 1 = cc in omega arith)
+      by None at e = cc
 
   rested_fixture : (m : Meaning K) (k : K) (g : Fitted) → m.at k ≡ Some g → (rested m).at k ≡ Some (with_awake false g)
   unfolding rested

@@ -1,5 +1,5 @@
 -- When a job can be laid, and when it can be committed.
-use Rattle.std.proofs.Common.{◌≡◌, ℕ, ◌≤◌, Bool, true, false, cond, not, ltb, List, Some, None, sum, refl, arith}
+use Rattle.std.proofs.Common.{◌≡◌, ℕ, ◌≤◌, Bool, true, false, cond, not, ltb, List, Some, None, sum, refl}
 use Rattle.std.proofs.lemmas.Bool.{ltb-false}
 use Rattle.lines.specs.Meaning.{Meaning}
 use Rattle.records.specs.declared.record.Record.{Record}
@@ -19,18 +19,18 @@ module _ {K : Type 0} where
           → cond (not a) (Some NoAnswer) (cond b (Some TooWide) None) ≡ None
           → (Walked ≡ Walked) × (all_answered (asked_widths m rows) ≡ true) × (sum (told_widths m rows) ≤ count)
       by true false is fits none = (refl, is, ltb-false _ _ fits)
-      by true true is fits none = absurd (let z : ◌≡◌ {A = ℕ} 0 1 = cc in omega arith)
-      by false b is fits none = absurd (let z : ◌≡◌ {A = ℕ} 0 1 = cc in omega arith)
-  lay_free count Walking m rows e = absurd (let z : ◌≡◌ {A = ℕ} 0 1 = cc in omega arith)
-  lay_free count Laid m rows e = absurd (let z : ◌≡◌ {A = ℕ} 0 1 = cc in omega arith)
-  lay_free count Set m rows e = absurd (let z : ◌≡◌ {A = ℕ} 0 1 = cc in omega arith)
-  lay_free count Full m rows e = absurd (let z : ◌≡◌ {A = ℕ} 0 1 = cc in omega arith)
-  lay_free count Contradicted m rows e = absurd (let z : ◌≡◌ {A = ℕ} 0 1 = cc in omega arith)
+      by true true is fits none = cc
+      by false b is fits none = cc
+  lay_free count Walking m rows e = cc
+  lay_free count Laid m rows e = cc
+  lay_free count Set m rows e = cc
+  lay_free count Full m rows e = cc
+  lay_free count Contradicted m rows e = cc
 
   pub commit_laid : (first count : ℕ) (phase : Phase) (m : Meaning K) (rows : List (Record K)) → rows_refusal phase first count m rows ≡ None → phase ≡ Laid
   commit_laid first count Laid m rows e = refl
-  commit_laid first count Walking m rows e = absurd (let z : ◌≡◌ {A = ℕ} 0 1 = cc in omega arith)
-  commit_laid first count Walked m rows e = absurd (let z : ◌≡◌ {A = ℕ} 0 1 = cc in omega arith)
-  commit_laid first count Set m rows e = absurd (let z : ◌≡◌ {A = ℕ} 0 1 = cc in omega arith)
-  commit_laid first count Full m rows e = absurd (let z : ◌≡◌ {A = ℕ} 0 1 = cc in omega arith)
-  commit_laid first count Contradicted m rows e = absurd (let z : ◌≡◌ {A = ℕ} 0 1 = cc in omega arith)
+  commit_laid first count Walking m rows e = cc
+  commit_laid first count Walked m rows e = cc
+  commit_laid first count Set m rows e = cc
+  commit_laid first count Full m rows e = cc
+  commit_laid first count Contradicted m rows e = cc

@@ -25,7 +25,7 @@ suits first count next zero low high = refl
 suits first count next (suc w) low high = and_from _ _ (le-leb first next low) (lt-ltb next (first + count) (omega arith))
 
 here_within : (next w : ℕ) (o : Option Address) → o ≡ address_at next w → (a : Address) → o ≡ Some a → (next ≡ a.slot)
-here_within next zero o e a is = absurd (let z : ◌≡◌ {A = ℕ} 0 1 = cc in omega arith)
+here_within next zero o e a is = cc
 here_within next (suc w) o e a is = let same : record { slot = next } ≡ a = cc in ap (λ (x : Address). x.slot) same
 
 module _ {K : Type 0} where
