@@ -1,6 +1,9 @@
 // How far a job has come.
 ghost use Rattle.std.specs.Prelude.{◌≡◌};
 ghost use Rattle.walk_law.specs.Phases.{phase_number, is_walking};
+ghost use Rattle.walk_law.specs.Walk.{told};
+
+use refusals::Refusal;
 
 #[derive(Clone, Copy, PartialEq, Eq)]
 pub enum Phase {
@@ -31,5 +34,16 @@ impl Phase {
         ensures { result ≡ is_walking self }
     {
         self == Phase::Walking
+    }
+
+    // What is told after a run or an answer: a walk that has ended as full or contradicted says so in place of an answer.
+    pub fn told(self) -> Result<(), Refusal>
+        ensures { result ≡ told self }
+    {
+        match self {
+            Phase::Full => Err(Refusal::BookFull),
+            Phase::Contradicted => Err(Refusal::Contradicted),
+            Phase::Walking | Phase::Walked | Phase::Laid | Phase::Set => Ok(()),
+        }
     }
 }
