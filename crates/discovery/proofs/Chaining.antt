@@ -1,5 +1,5 @@
 -- Chains and their promise, from single links.
-use Rattle.std.proofs.Common.{◌≡◌, ℕ, ◌+◌, ◌<◌, ◌≤◌, Bool, true, false, cond, List, [], ◌∷◌, ◌++◌, length, get_or, drop, sym, refl, ap, ◌∙◌, subst}
+use Rattle.std.proofs.Common.{◌≡◌, ℕ, ◌+◌, ◌<◌, ◌≤◌, Bool, true, false, cond, ◌⊎◌, inl, inr, List, [], ◌∷◌, ◌++◌, length, get_or, drop, sym, refl, ap, ◌∙◌, subst}
 use Rattle.std.proofs.lemmas.List.{append-nil, append_assoc, at_drop_more, at_drop_all}
 use Rattle.std.proofs.lemmas.Bool.{both_ways}
 use Rattle.lines.specs.Meaning.{Meaning}
@@ -25,6 +25,12 @@ open_alone (Run budget) is = absurd (both_ways false refl is)
 open_alone Lay is = absurd (both_ways false refl is)
 open_alone Commit is = absurd (both_ways false refl is)
 open_alone Close is = absurd (both_ways false refl is)
+
+-- Either call that begins a search takes the place of the job before it.
+pub opens_in_place : {K : Type 0} (rank : K → ℕ) (top first count : ℕ) (s t : Scene K) (call : Call) → (call ≡ Open) ⊎ (call ≡ Again) → Opens top first count s.line s.memory t
+    → Link rank top first count (with_job s) call (with_job t)
+opens_in_place rank top first count s t call (inl is) o = subst (λ x. Link rank top first count (with_job s) x (with_job t)) (sym is) (opens o)
+opens_in_place rank top first count s t call (inr is) o = subst (λ x. Link rank top first count (with_job s) x (with_job t)) (sym is) (opens_again o)
 
 module _ {K : Type 0} (rank : K → ℕ) (levels top first count : ℕ) (laws : Laws rank levels top) where
   pub goes_on : (s : State K) (call : Call) (t : State K) → Link rank top first count s call t → GoesOn rank levels top first count s call t

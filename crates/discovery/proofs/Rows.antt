@@ -8,22 +8,6 @@ use Rattle.walk_law.specs.Ranks.{put_in}
 use Rattle.discovery.specs.Books.{memory_of, rows_of, places_of, memory_with, memory_if, BookAfter}
 use Rattle.discovery.specs.declared.book.Book.{Book}
 
--- So many elements at the beginning, or all of them.
-pub take-least : {X : Type 0} (n : ℕ) (xs : List X) → take (min n (length xs)) xs ≡ take n xs
-take-least n xs = by_size (cases_lt n (length xs))
-  where
-    by_size : (n < length xs) ⊎ (length xs ≤ n) → take (min n (length xs)) xs ≡ take n xs
-    by_size (inl less) = ap (λ i. take i xs) (omega arith)
-    by_size (inr past) = take_all (min n (length xs)) xs (omega arith) ∙ sym (take_all n xs past)
-
--- And what is behind them.
-pub drop_least : {X : Type 0} (n : ℕ) (xs : List X) → drop (min n (length xs)) xs ≡ drop n xs
-drop_least n xs = by_size (cases_lt n (length xs))
-  where
-    by_size : (n < length xs) ⊎ (length xs ≤ n) → drop (min n (length xs)) xs ≡ drop n xs
-    by_size (inl less) = ap (λ i. drop i xs) (omega arith)
-    by_size (inr past) = drop_all (min n (length xs)) xs (omega arith) ∙ sym (drop_all n xs past)
-
 -- As many others in their place.
 pub take-front : {X : Type 0} (n : ℕ) (xs ys : List X) → length ys ≡ length (take n xs) → take n (ys ++ drop n xs) ≡ ys
 take-front n xs ys same = by_size (cases_lt n (length xs))
@@ -35,16 +19,12 @@ take-front n xs ys same = by_size (cases_lt n (length xs))
         ∙ take_all n ys (let long = ap length (take_all n xs past) in omega arith)
 
 module _ {K : Type 0} (rank : K → ℕ) (b : Book K) where
-  long_rows : length (row_ranks rank (rows_of b)) ≡ min b.count (length (memory_of b))
-  long_rows = length-map (rows_of b) (λ row. rank row.key) ∙ length-take b.count (memory_of b)
+  long_rows : length (row_ranks rank (rows_of b)) ≡ b.count
+  long_rows = length-map (rows_of b) (λ row. rank row.key) ∙ length-take-le b.count (memory_of b) b.within
 
   -- There is a place for one more exactly if there are fewer rows than places.
   pub free_place : ltb (length (row_ranks rank (rows_of b))) (places_of b) ≡ ltb b.count (places_of b)
-  free_place = by_size (cases_lt b.count (places_of b))
-    where
-      by_size : (b.count < places_of b) ⊎ (places_of b ≤ b.count) → ltb (length (row_ranks rank (rows_of b))) (places_of b) ≡ ltb b.count (places_of b)
-      by_size (inl less) = lt-ltb _ _ (omega (arith, long_rows)) ∙ sym (lt-ltb _ _ less)
-      by_size (inr full) = le-ltb _ _ (omega (arith, long_rows)) ∙ sym (le-ltb _ _ full)
+  free_place = ap (λ n. ltb n (places_of b)) long_rows
 
   -- The rows after a key was listed.
   module _ (key : K) (after : Book K) (free : b.count < places_of b) (counted : after.count ≡ suc b.count) (written : memory_of after ≡ memory_with rank key b) where

@@ -1,9 +1,8 @@
 // The book: the keys that were found, in ascending order, in memory that the caller lends.
-ghost use Rattle.std.specs.Prelude.{◌≡◌, suc, length, if◌then◌else◌, nat_lt};
+ghost use Rattle.std.specs.Prelude.{◌≡◌, suc, ◌≤◌, length, if◌then◌else◌, nat_lt};
 ghost use Rattle.std.specs.List.{slice_get};
 ghost use Rattle.walk_law.specs.Ranks.{is_in};
 ghost use Rattle.records.specs.Rows.{row_ranks};
-ghost use Rattle.discovery.specs.Books.{memory_of, rows_of, places_of, memory_with};
 
 use keys::family::Family;
 use records::listing;
@@ -15,11 +14,15 @@ const MOST_PLACES: usize = 65_536;
 // The rows are the first `count` records of the memory.
 #[derive(Drop)]
 pub struct Book<'a, K> {
-    pub(crate) records: &'a mut [Record<K>],
-    pub(crate) count: usize,
+    records: &'a mut [Record<K>],
+    count: usize,
+    ghost within: { count ≤ length records.now },
+    ghost few: { count ≤ 65536 },
 }
 
 impl<'a, K: Family> Book<'a, K> {
+    ghost use Rattle.discovery.specs.Books.{memory_of, rows_of, places_of, memory_with};
+
     // An empty book. No record is written.
     pub fn new(records: &'a mut [Record<K>]) -> Book<'a, K>
         ensures empty { result.count ≡ 0 }
@@ -40,7 +43,7 @@ impl<'a, K: Family> Book<'a, K> {
     pub fn count(&self) -> usize
         ensures { result ≡ length (rows_of self.now) }
     {
-        self.count.min(self.records.len())
+        self.count
     }
 
     // How many keys can be listed.
@@ -54,15 +57,14 @@ impl<'a, K: Family> Book<'a, K> {
     pub fn rows(&self) -> &[Record<K>]
         ensures { result.now ≡ rows_of self.now }
     {
-        &self.records[0..self.count.min(self.records.len())]
+        &self.records[..self.count]
     }
 
     // The row with a number, counted from 0; none past the last.
     pub fn row(&self, i: usize) -> Option<Record<K>>
         ensures { result ≡ slice_get (rows_of self.now) i }
     {
-        let rows = self.rows();
-        if i < rows.len() { Some(rows[i]) } else { None }
+        self.rows().get(i).copied()
     }
 
     // Whether a key is listed.
@@ -79,12 +81,13 @@ impl<'a, K: Family> Book<'a, K> {
         ensures count { self.new.count ≡ (if result then suc self.old.count else self.old.count) }
         ensures memory { memory_of self.new ≡ (if result then memory_with K.Family.rank key self.old else memory_of self.old) }
     {
-        let count = self.count;
-        if count >= self.places() {
+        if self.count >= self.places() {
             return false;
         }
-        let listed = listing::list(self.records, count, key);
-        self.count = count + 1;
+        let listed = listing::list(self.records, self.count, key);
+        self.count += 1;
         listed
     }
 }
+
+mod numbering;

@@ -16,5 +16,6 @@ pub struct Walk<K> {
 }
 
 mod ask;
+mod course;
 mod hear;
 pub mod progress;

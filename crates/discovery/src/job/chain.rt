@@ -19,18 +19,6 @@ pub enum NewestJob<K> {
     Closed(ClosedJob),
 }
 
-// A job whose place a new one takes.
-fn discard<K: Family>(job: Job<K>) {
-    let Job { walk: _ } = job;
-}
-
-fn discard_closed(closed: ClosedJob) {
-    let ClosedJob {
-        phase: _,
-        questions: _,
-    } = closed;
-}
-
 // Makes a call where there is a job.
 fn call_job<L: Line>(
     line: &mut L,
@@ -43,11 +31,8 @@ fn call_job<L: Line>(
     let mut job = job;
     // Where a call is refused the phase tells what can be done next.
     match call {
-        Call::Open => {
-            discard(job);
-            return NewestJob::Open(Job::open(line, book));
-        }
-        Call::Again => job.again(line, book),
+        // A new search takes the place of the one before.
+        Call::Open | Call::Again => job.again(line, book),
         Call::Run(budget) => {
             let _ = job.run(line, book, budget);
         }
@@ -76,13 +61,13 @@ impl<K: Family> NewestJob<K> {
     {
         match self {
             NewestJob::Open(job) => call_job(line, book, job, call),
-            NewestJob::Closed(closed) => {
-                if !call.is_open() {
-                    return NewestJob::Closed(closed);
-                }
-                discard_closed(closed);
-                NewestJob::Open(Job::open(line, book))
-            }
+            NewestJob::Closed(
+                ClosedJob {
+                    phase: _,
+                    questions: _,
+                },
+            ) if call.is_open() => NewestJob::Open(Job::open(line, book)),
+            NewestJob::Closed(closed) => NewestJob::Closed(closed),
         }
     }
 }

@@ -29,12 +29,9 @@ fn stands<L: Line>(line: &mut L, row: Record<L::Key>) -> bool
     ensures same { L.Line.means line.new ≡ L.Line.means line.old }
     ensures value { result ≡ row_stands L.Key.Family.first L.Key.Family.count (L.Line.means line.old) row }
 {
-    match line.query(row.key) {
-        Some(footprint) => {
-            footprint.width == row.width && address_suits::<L::Key>(row.width, row.address)
-        }
-        None => false,
-    }
+    line.query(row.key).is_some_and(|footprint| {
+        footprint.width == row.width && address_suits::<L::Key>(row.width, row.address)
+    })
 }
 
 fn all_stand<L: Line>(line: &mut L, rows: &[Record<L::Key>]) -> bool
@@ -71,18 +68,13 @@ fn check<L: Line>(line: &mut L, book: &Book<'_, L::Key>, phase: Phase) -> Result
     ensures same { L.Line.means line.new ≡ L.Line.means line.old }
     ensures value { result ≡ refused_or_done (rows_refusal phase L.Key.Family.first L.Key.Family.count (L.Line.means line.old) (rows_of book.now)) }
 {
-    match phase {
-        Phase::Laid => {
-            if all_stand(line, book.rows()) {
-                Ok(())
-            } else {
-                Err(Refusal::NoAnswer)
-            }
-        }
-        Phase::Walking | Phase::Walked | Phase::Set | Phase::Full | Phase::Contradicted => {
-            Err(Refusal::WrongPhase)
-        }
+    if phase != Phase::Laid {
+        return Err(Refusal::WrongPhase);
     }
+    if !all_stand(line, book.rows()) {
+        return Err(Refusal::NoAnswer);
+    }
+    Ok(())
 }
 
 impl<K: Family> Job<K> {

@@ -22,59 +22,9 @@ fn total_width<L: Line>(line: &mut L, rows: &[Record<L::Key>]) -> Option<u128>
 {
     let mut total = 0;
     for row in rows {
-        match line.query(row.key) {
-            Some(footprint) => total += u128::from(footprint.width),
-            None => return None,
-        }
+        total += u128::from(line.query(row.key)?.width);
     }
     Some(total)
-}
-
-// The address of a fixture of this width, if the next free slot is this one.
-fn address_at(next: u16, width: u16) -> Option<Address>
-    ensures { result ≡ address_at next width }
-{
-    if width == 0 {
-        None
-    } else {
-        Some(Address { slot: next })
-    }
-}
-
-// How many slots a key takes: none if it does not answer.
-fn width_of<L: Line>(line: &mut L, key: L::Key) -> u16
-    ensures same { L.Line.means line.new ≡ L.Line.means line.old }
-    ensures value { result ≡ width_of (query_answer (L.Line.means line.old) key) }
-{
-    match line.query(key) {
-        Some(footprint) => footprint.width,
-        None => 0,
-    }
-}
-
-// Asks the key of each row for its width, and gives it the next free slots.
-fn number<L: Line>(line: &mut L, rows: &mut [Record<L::Key>], first: u16)
-    requires { first + sum (told_widths (L.Line.means line.old) rows.old) < 65536 }
-    ensures same { L.Line.means line.new ≡ L.Line.means line.old }
-    ensures after { rows.new ≡ numbered first (L.Line.means line.old) rows.old }
-{
-    let mut next = first;
-    for row in rows.iter_mut() {
-        let width = width_of(line, row.key);
-        row.width = width;
-        row.address = address_at(next, width);
-        next += width;
-    }
-}
-
-// The same for the first so many records of some memory.
-fn number_rows<L: Line>(line: &mut L, memory: &mut [Record<L::Key>], count: usize, first: u16)
-    requires { first + sum (told_widths (L.Line.means line.old) (take count memory.old)) < 65536 }
-    ensures same { L.Line.means line.new ≡ L.Line.means line.old }
-    ensures after { memory.new ≡ numbered first (L.Line.means line.old) (take count memory.old) ++ drop count memory.old }
-{
-    let end = count.min(memory.len());
-    number(line, &mut memory[0..end], first);
 }
 
 // Why the rows of a book cannot be numbered, if they cannot. Every key is asked.
@@ -82,9 +32,7 @@ fn check_widths<L: Line>(line: &mut L, book: &Book<'_, L::Key>) -> Result<(), Re
     ensures same { L.Line.means line.new ≡ L.Line.means line.old }
     ensures value { result ≡ refused_or_done (width_refusal L.Key.Family.count (all_answered (asked_widths (L.Line.means line.old) (rows_of book.now))) (sum (told_widths (L.Line.means line.old) (rows_of book.now)))) }
 {
-    let Some(total) = total_width(line, book.rows()) else {
-        return Err(Refusal::NoAnswer);
-    };
+    let total = total_width(line, book.rows()).ok_or(Refusal::NoAnswer)?;
     if total > u128::from(L::Key::address_count()) {
         return Err(Refusal::TooWide);
     }
@@ -96,12 +44,10 @@ fn check<L: Line>(line: &mut L, book: &Book<'_, L::Key>, phase: Phase) -> Result
     ensures same { L.Line.means line.new ≡ L.Line.means line.old }
     ensures value { result ≡ refused_or_done (widths_refusal phase L.Key.Family.count (L.Line.means line.old) (rows_of book.now)) }
 {
-    match phase {
-        Phase::Walked => check_widths(line, book),
-        Phase::Walking | Phase::Laid | Phase::Set | Phase::Full | Phase::Contradicted => {
-            Err(Refusal::WrongPhase)
-        }
+    if phase != Phase::Walked {
+        return Err(Refusal::WrongPhase);
     }
+    check_widths(line, book)
 }
 
 impl<K: Family> Job<K> {
@@ -116,8 +62,7 @@ impl<K: Family> Job<K> {
         ensures { Lays K.Family.first K.Family.count (scene_of K.Family.rank (L.Line.means line.old) book.old self.old) result (scene_of K.Family.rank (L.Line.means line.new) book.new self.new) }
     {
         check(line, book, self.walk.phase())?;
-        let count = book.count;
-        number_rows(line, book.records, count, K::first_address());
+        book.number(line, K::first_address());
         self.walk.enter(Phase::Laid);
         Ok(())
     }

@@ -50,6 +50,7 @@ fn ask_on<L: Line>(
     ensures questions { Questions L.Key.Family.rank (scene_of L.Key.Family.rank (L.Line.means line.old) book.old job.old) result (scene_of L.Key.Family.rank (L.Line.means line.new) book.new job.new) }
     ensures stops { (result ≡ budget) ⊎ NothingToAsk (scene_of L.Key.Family.rank (L.Line.means line.new) book.new job.new) }
 {
+    // Kept a loop: the line changes with each question, and what a closure has changed is not known after it.
     for heard in 0..budget {
         if !ask(line, book, job) {
             return heard;
@@ -62,11 +63,8 @@ fn ask_on<L: Line>(
 fn ran(heard: u32, phase: Phase) -> Result<Ran, Refusal>
     ensures { result ≡ ran_answer heard phase }
 {
-    match phase {
-        Phase::Full => Err(Refusal::BookFull),
-        Phase::Contradicted => Err(Refusal::Contradicted),
-        Phase::Walking | Phase::Walked | Phase::Laid | Phase::Set => Ok(Ran { heard, phase }),
-    }
+    phase.told()?;
+    Ok(Ran { heard, phase })
 }
 
 impl<K: Family> Job<K> {

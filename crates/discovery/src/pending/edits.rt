@@ -28,19 +28,14 @@ impl<K: Family> Pending<K> {
     pub(crate) fn first(&self) -> Option<Range<K>>
         ensures { option_map (range_ranks K.Family.rank) result ≡ first_of (ranks_of K.Family.rank self.now) }
     {
-        if self.depth == 0 {
-            return None;
-        }
-        Some(self.ranges[self.depth - 1])
+        self.ranges[..self.depth].last().copied()
     }
 
     // Drops the lowest of the ranges.
     pub(crate) fn drop_first(&mut self)
         ensures { ranks_of K.Family.rank self.new ≡ without_first (ranks_of K.Family.rank self.old) }
     {
-        if self.depth > 0 {
-            self.depth -= 1;
-        }
+        self.depth = self.depth.saturating_sub(1);
     }
 
     // Puts two ranges in the place of the lowest. Answers whether there was one, and memory for both; otherwise nothing

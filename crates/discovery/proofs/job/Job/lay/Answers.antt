@@ -1,5 +1,4 @@
 use Rattle.std.proofs.Common.{◌++◌, drop, Err, sym, ap, ◌∙◌}
-use borrow.Rule.Slice.Mut.{set_vals}
 use Rattle.std.proofs.lemmas.Result.{err_from_is_err_and}
 use Rattle.job_law.specs.Calls.{refused_or_done, widths_refusal}
 use Rattle.job_law.specs.Numbering.{numbered}
@@ -16,8 +15,8 @@ returns-in_err-check g c =
     lay_refused g.K.Family.rank g.K.Family.first g.K.Family.count m (g.L.Line.means c.check.new.line) c.args.book.now c.args.self.now
     c.check.ensures.same e c.from_residual.result (sym c.in_err-check.was ∙ checked) (rw (p.1, p.2) (λ i. Err e))
 
-pub number_rows-requires : goal.number_rows-requires
-number_rows-requires g c =
+pub number-requires : goal.number-requires
+number-requires g c =
     let m = g.L.Line.means c.args.line.now in
     let bounds = g.met.K.Family.addresses_in_bounds in
     let checked = sym c.in_ok-check.was ∙ c.check.ensures.value ∙ ap (λ phase. refused_or_done (widths_refusal phase g.K.Family.count m (rows_of c.args.book.now))) c.phase.ensures in
@@ -30,10 +29,9 @@ returns g c =
     let checked = sym c.in_ok-check.was ∙ c.check.ensures.value ∙ ap (λ phase. refused_or_done (widths_refusal phase g.K.Family.count m (rows_of c.args.book.now))) c.phase.ensures in
     let b = c.args.book.now in
     let written =
-    c.number_rows.ensures.after
+    c.number.ensures.after
     ∙ ap (λ n. numbered c.first_address.result n (rows_of b) ++ drop b.count (memory_of b)) c.check.ensures.same
     ∙ ap (λ first. numbered first m (rows_of b) ++ drop b.count (memory_of b)) c.first_address.ensures in
-    lay_done g.K.Family.rank g.K.Family.first g.K.Family.count m (g.L.Line.means c.number_rows.new.line) c.args.book.now c.args.self.now
-    (c.number_rows.ensures.same ∙ c.check.ensures.same)
-    record { records = set_vals c.number_rows.new.memory c.args.book.now.records; count = c.args.book.now.count } c.enter.new.self
-    (λ i. c.args.book.now.count) written c.enter.ensures checked
+    lay_done g.K.Family.rank g.K.Family.first g.K.Family.count m (g.L.Line.means c.number.new.line) c.args.book.now c.args.self.now
+    (c.number.ensures.same ∙ c.check.ensures.same)
+    c.number.new.self c.enter.new.self c.number.ensures.count written c.enter.ensures checked

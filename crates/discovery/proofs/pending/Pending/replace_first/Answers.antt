@@ -26,5 +26,5 @@ returns g c =
       answer = sym (memory_left rank p.ranges p.depth size deep (omega arith) (omega arith));
       after =
           stacked_halves rank p.ranges p.depth (omega arith) (omega arith) lower upper (omega arith)
-          ∙ ap (λ l. range_ranks rank lower ∷ range_ranks rank upper ∷ l) (sym (stacked_rest rank p.ranges p.depth size deep (omega arith)));
+          ∙ ap (λ l. range_ranks rank lower ∷ range_ranks rank upper ∷ l) (sym (stacked_rest rank p.ranges p.depth size deep));
     }

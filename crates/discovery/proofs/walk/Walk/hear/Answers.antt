@@ -1,13 +1,15 @@
-use Rattle.std.proofs.Common.{sym, refl, ap, ◌∙◌, arith, rules}
+use Rattle.std.proofs.Common.{◌≡◌, Err, sym, refl, ap, ◌∙◌, arith, rules}
+use Rattle.std.proofs.lemmas.Result.{err_from_is_err_and}
 use Rattle.std.specs.Option.{option_map}
 use Rattle.walk_law.specs.Run.{answer_ranks}
-use Rattle.walk_law.specs.Walk.{Walk, told}
+use Rattle.walk_law.specs.Walk.{Walk, refusal_of, told}
 use Rattle.discovery.specs.Books.{rows_of, places_of}
 use Rattle.discovery.specs.Walks.{walk_of}
 use Rattle.walk_law.proofs.Listing.{Laws}
 use Rattle.walk_law.proofs.WholeRuns.{leads_on_by}
 use Rattle.discovery.proofs.FamilyLaws.{laws_from}
 use Rattle.discovery.proofs.Hearing.{refused_walk, refused_told, refused_lists, unrefused_walk, unrefused_told, unrefused_lists, unrefused}
+use Rattle.discovery.proofs.Refused.{is_refused, is_free}
 use Rattle.discovery.proofs.Rows.{book_untouched, book_retold}
 use Rattle.discovery.proofs.walk.Walk.hear.Given as given
 use Rattle.discovery.proofs.walk.Walk.hear.Goals as goal
@@ -17,16 +19,18 @@ laws g =
     let met = g.met.K.Family in
     laws_from met.same_rank_same_key met.no_rank_above_top met.every_rank_up_to_top met.top_below_power met.levels_in_bounds
 
-pub returns-in-Some : goal.returns-in-Some
-returns-in-Some g c =
+pub returns-in_err-check : goal.returns-in_err-check
+returns-in_err-check g c =
     let rank = g.K.Family.rank in
     let w = c.args.self.now in
     let book = c.args.book.now in
     let walk = walk_of rank w (rows_of book) in
     let answer = answer_ranks rank c.args.answer in
-    let refusal = c.in-Some.refusal in
-    let is = sym c.in-Some.ensures in
-    let told_is = sym (refused_told (places_of book) walk answer refusal is) in
+    let refusal = c.in_err-check.field-0.0 in
+    let is = is_refused (refusal_of walk answer) refusal (sym c.in_err-check.was ∙ c.check.ensures) in
+    let p = err_from_is_err_and c.from_residual.result c.from_residual.ensures.1 in
+    let returned : c.from_residual.result ≡ Err refusal = rw (p.1, p.2) refl in
+    let told_is = returned ∙ sym (refused_told (places_of book) walk answer refusal is) in
     let walk_is = sym (refused_walk (places_of book) walk answer refusal is) in
     record {
       answer = told_is;
@@ -40,7 +44,7 @@ pub hear_answer-requires : goal.hear_answer-requires
 hear_answer-requires g c =
     let rank = g.K.Family.rank in
     let w = c.args.self.now in
-    let free = unrefused w.phase w.questions (option_map rank w.hushing) (answer_ranks rank c.args.answer) (sym c.in_default.ensures) in
+    let free = unrefused w.phase w.questions (option_map rank w.hushing) (answer_ranks rank c.args.answer) (is_free (refusal_of (walk_of rank w (rows_of c.args.book.now)) (answer_ranks rank c.args.answer)) (sym c.in_ok-check.was ∙ c.check.ensures)) in
     (search rules, (search (rules, free.0), search (rules, free.1)))
 
 pub returns : goal.returns
@@ -50,9 +54,9 @@ returns g c =
     let book = c.args.book.now in
     let walk = walk_of rank w (rows_of book) in
     let answer = answer_ranks rank c.args.answer in
-    let is = sym c.in_default.ensures in
+    let is = is_free (refusal_of walk answer) (sym c.in_ok-check.was ∙ c.check.ensures) in
     let done = c.hear_answer.ensures.walk ∙ sym (unrefused_walk (places_of book) walk answer is) in
-    let told_is = c.outcome.ensures ∙ ap (λ (v : Walk). told v.phase) done ∙ sym (unrefused_told (places_of book) walk answer is) in
+    let told_is = c.told.ensures ∙ ap (λ (v : Walk). told v.phase) done ∙ sym (unrefused_told (places_of book) walk answer is) in
     record {
       answer = told_is;
       walk = done;

@@ -22,9 +22,9 @@ returns-in-Open g c =
           goes_on g.K.Family.rank g.K.Family.levels g.K.Family.top g.K.Family.first g.K.Family.count (laws g) _ c.args.call _ c.call_job.ensures;
     }
 
-pub returns-else-not-is_open : goal.returns-else-not-is_open
-returns-else-not-is_open g c =
-    let is = open_alone c.args.call (sym c.is_open.ensures ∙ c.if-not-is_open.false) in
+pub returns-in-Closed : goal.returns-in-Closed
+returns-in-Closed g c =
+    let is = open_alone c.args.call (sym c.if-is_open.ensures) in
     rw (is, c.in-Closed.is)
     record {
       makes_the_call = λ made. opens c.open.ensures;

@@ -1,7 +1,7 @@
 use Rattle.std.proofs.Common.{◌≡◌, ◌+◌, length, sum}
 use Rattle.job_law.specs.Numbering.{numbered, told_widths}
 use Rattle.discovery.proofs.Numbering.{numbered_on, slots_on}
-use Rattle.discovery.proofs.job.laying.number.Given as goal
+use Rattle.discovery.proofs.book.numbering.number.Given as goal
 
 -- The line is as it was, and what is left gives the rows and takes the slots that were promised.
 abbrev pub invariant-loop-row : goal.invariant-loop-row
