@@ -1,5 +1,5 @@
 -- One question of a run, from what line, walk and book say of it.
-use Rattle.std.proofs.Common.{◌≡◌, ℕ, suc, Bool, true, false, cond, ◌++◌, drop, Some, None, Option, sym, refl, ap, ◌∙◌, arith}
+use Rattle.std.proofs.Common.{◌≡◌, ℕ, suc, Bool, true, false, cond, ◌++◌, drop, Some, None, Option, sym, refl, ap, ◌∙◌}
 use Rattle.std.specs.Option.{option_map}
 use Rattle.lines.specs.Meaning.{Meaning}
 use Rattle.records.specs.Rows.{with_key}
@@ -34,7 +34,7 @@ module _ {K : Type 0} (rank : K → ℕ) (before after : Book K) where
   pub book_listed : ((x y : K) → rank x ≡ rank y → x ≡ y) → (key : Option K) (listed : Bool) → BookAfter rank key listed before after → listed ≡ true
       → (k : K) → option_map rank key ≡ Some (rank k)
       → (memory_of after ≡ with_key rank k (rows_of before) ++ drop (suc before.count) (memory_of before)) × (after.count ≡ suc before.count)
-  book_listed same None listed b new k is = absurd (let z : ◌≡◌ {A = ℕ} 0 1 = cc in omega arith)
+  book_listed same None listed b new k is = cc
   book_listed same (Some j) listed b new k is =
       let rank_is : rank j ≡ rank k = cc in (
         b.memory ∙ ap (λ t. memory_if rank (Some j) t before) new ∙ ap (λ x. with_key rank x (rows_of before) ++ drop (suc before.count) (memory_of before)) (same j k rank_is),

@@ -1,7 +1,6 @@
 -- Chains and their promise, from single links.
 use Rattle.std.proofs.Common.{◌≡◌, ℕ, ◌+◌, ◌<◌, ◌≤◌, Bool, true, false, cond, ◌⊎◌, inl, inr, List, [], ◌∷◌, ◌++◌, length, get_or, drop, sym, refl, ap, ◌∙◌, subst}
 use Rattle.std.proofs.lemmas.List.{append-nil, append_assoc, at_drop_more, at_drop_all}
-use Rattle.std.proofs.lemmas.Bool.{both_ways}
 use Rattle.lines.specs.Meaning.{Meaning}
 use Rattle.records.specs.declared.record.Record.{Record}
 use Rattle.walk_law.proofs.Listing.{Laws}
@@ -20,11 +19,11 @@ use Rattle.discovery.specs.declared.job.chain.NewestJob.TheVariants as newest
 -- The only call that is made after close.
 pub open_alone : (call : Call) → is_open call ≡ true → call ≡ Open
 open_alone Open is = refl
-open_alone Again is = absurd (both_ways false refl is)
-open_alone (Run budget) is = absurd (both_ways false refl is)
-open_alone Lay is = absurd (both_ways false refl is)
-open_alone Commit is = absurd (both_ways false refl is)
-open_alone Close is = absurd (both_ways false refl is)
+open_alone Again is = cc
+open_alone (Run budget) is = cc
+open_alone Lay is = cc
+open_alone Commit is = cc
+open_alone Close is = cc
 
 -- Either call that begins a search takes the place of the job before it.
 pub opens_in_place : {K : Type 0} (rank : K → ℕ) (top first count : ℕ) (s t : Scene K) (call : Call) → (call ≡ Open) ⊎ (call ≡ Again) → Opens top first count s.line s.memory t

@@ -1,22 +1,11 @@
 -- The rows of a book as a part of its memory.
-use Rattle.std.proofs.Common.{◌≡◌, ℕ, suc, ◌<◌, ◌≤◌, min, Bool, true, false, cond, ltb, ◌⊎◌, List, ◌++◌, length, take, drop, Some, None, Option, sym, refl, ap, ◌∙◌, subst₂, inl, inr, arith}
-use Rattle.std.proofs.lemmas.List.{append-nil, drop_all, take_all, take_at, length-map, length-take, length-take-le}
-use Rattle.std.proofs.lemmas.Bool.{cases_lt, lt-ltb, le-ltb}
+use Rattle.std.proofs.Common.{◌≡◌, ℕ, suc, ◌<◌, Bool, false, cond, ltb, length, take, drop, Some, None, Option, sym, refl, ap, ◌∙◌, subst₂, arith}
+use Rattle.std.proofs.lemmas.List.{take_at, length-map, length-take-le}
 use Rattle.records.specs.Rows.{row_ranks, with_key}
 use Rattle.records.proofs.Places.{length-with_key, ranks_with_key}
 use Rattle.walk_law.specs.Ranks.{put_in}
 use Rattle.discovery.specs.Books.{memory_of, rows_of, places_of, memory_with, memory_if, BookAfter}
 use Rattle.discovery.specs.declared.book.Book.{Book}
-
--- As many others in their place.
-pub take-front : {X : Type 0} (n : ℕ) (xs ys : List X) → length ys ≡ length (take n xs) → take n (ys ++ drop n xs) ≡ ys
-take-front n xs ys same = by_size (cases_lt n (length xs))
-  where
-    by_size : (n < length xs) ⊎ (length xs ≤ n) → take n (ys ++ drop n xs) ≡ ys
-    by_size (inl less) = take_at ys (drop n xs) n (same ∙ length-take-le n xs (omega arith))
-    by_size (inr past) =
-        ap (λ l. take n (ys ++ l)) (drop_all n xs past) ∙ ap (take n) (append-nil ys)
-        ∙ take_all n ys (let long = ap length (take_all n xs past) in omega arith)
 
 module _ {K : Type 0} (rank : K → ℕ) (b : Book K) where
   long_rows : length (row_ranks rank (rows_of b)) ≡ b.count
@@ -38,20 +27,6 @@ module _ {K : Type 0} (rank : K → ℕ) (b : Book K) where
 
     pub ranks_listed : row_ranks rank (rows_of after) ≡ put_in (rank key) (row_ranks rank (rows_of b))
     ranks_listed = ap (row_ranks rank) rows_listed ∙ ranks_with_key rank key (rows_of b)
-
--- The book as it was, and with one key more.
-module _ {K : Type 0} (rank : K → ℕ) (key : K) (before after : Book K) (listed : Bool) where
-  pub book_same : listed ≡ false → after.count ≡ before.count → memory_of after ≡ memory_of before → BookAfter rank (Some key) listed before after
-  book_same old count memory = record {
-    count = count ∙ sym (ap (λ t. cond t (suc before.count) before.count) old);
-    memory = memory ∙ sym (ap (λ t. memory_if rank (Some key) t before) old);
-  }
-
-  pub book_more : listed ≡ true → after.count ≡ suc before.count → memory_of after ≡ memory_with rank key before → BookAfter rank (Some key) listed before after
-  book_more new count memory = record {
-    count = count ∙ sym (ap (λ t. cond t (suc before.count) before.count) new);
-    memory = memory ∙ sym (ap (λ t. memory_if rank (Some key) t before) new);
-  }
 
 -- Nothing was listed, and nothing changed.
 pub book_untouched : {K : Type 0} (rank : K → ℕ) (key : Option K) (book : Book K) (listed : Bool) → listed ≡ false → BookAfter rank key listed book book

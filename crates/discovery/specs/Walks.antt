@@ -8,7 +8,7 @@ use Rattle.records.specs.Rows.{row_ranks}
 use Rattle.records.specs.declared.record.Record.{Record}
 use Rattle.walk_law.specs.Ranks.{is_in}
 use Rattle.walk_law.specs.Walk as law
-use Rattle.discovery.specs.Pending.{ranks_of, without_first}
+use Rattle.discovery.specs.Pending.{ranks_of}
 use Rattle.discovery.specs.declared.walk.Walk.{Walk}
 
 -- A walk with these ranks listed.
@@ -43,14 +43,6 @@ with_probe listed w = record {
   listed = listed;
   questions = suc w.questions;
 }
-
--- What becomes of a walk whose lowest range was heard from: with the key that was read there, if one was that can be new.
-abbrev pub after_hint : Range ℕ → Option ℕ → law.Walk → law.Walk
-after_hint r (Some k) w = with_hush k w
-after_hint r None w = law.in_memory w (law.split_off r (without_first w.pending) w)
-
-abbrev pub after_loud : Range ℕ → Option ℕ → law.Walk → law.Walk
-after_loud r hint w = cond (law.is_one r) (with_hush r.lo w) (after_hint r hint w)
 
 -- The key that an answer to a probe hints at: one of the range that is not listed.
 abbrev pub hinted : Range ℕ → List ℕ → ProbeAnswer ℕ → Option ℕ

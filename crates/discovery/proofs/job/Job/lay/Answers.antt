@@ -1,27 +1,9 @@
-use Rattle.std.proofs.Common.{◌++◌, drop, Err, sym, ap, ◌∙◌}
-use Rattle.std.proofs.lemmas.Result.{err_from_is_err_and}
+use Rattle.std.proofs.Common.{◌++◌, drop, sym, ap, ◌∙◌}
 use Rattle.job_law.specs.Calls.{refused_or_done, widths_refusal}
 use Rattle.job_law.specs.Numbering.{numbered}
 use Rattle.discovery.specs.Books.{memory_of, rows_of}
-use Rattle.discovery.proofs.Laying.{lay_refused, slots_fit, lay_done}
+use Rattle.discovery.proofs.Laying.{lay_done}
 use Rattle.discovery.proofs.job.Job.lay.Goals as goal
-
-pub returns-in_err-check : goal.returns-in_err-check
-returns-in_err-check g c =
-    let m = g.L.Line.means c.args.line.now in
-    let e = c.in_err-check.field-0.0 in
-    let p = err_from_is_err_and c.from_residual.result c.from_residual.ensures.1 in
-    let checked = c.check.ensures.value ∙ ap (λ phase. refused_or_done (widths_refusal phase g.K.Family.count m (rows_of c.args.book.now))) c.phase.ensures in
-    lay_refused g.K.Family.rank g.K.Family.first g.K.Family.count m (g.L.Line.means c.check.new.line) c.args.book.now c.args.self.now
-    c.check.ensures.same e c.from_residual.result (sym c.in_err-check.was ∙ checked) (rw (p.1, p.2) (λ i. Err e))
-
-pub number-requires : goal.number-requires
-number-requires g c =
-    let m = g.L.Line.means c.args.line.now in
-    let bounds = g.met.K.Family.addresses_in_bounds in
-    let checked = sym c.in_ok-check.was ∙ c.check.ensures.value ∙ ap (λ phase. refused_or_done (widths_refusal phase g.K.Family.count m (rows_of c.args.book.now))) c.phase.ensures in
-    slots_fit g.K.Family.rank g.K.Family.first g.K.Family.count m (g.L.Line.means c.check.new.line) c.args.book.now c.args.self.now
-    c.check.ensures.same c.first_address.result c.first_address.ensures bounds.0 bounds.1 checked
 
 pub returns : goal.returns
 returns g c =

@@ -1,4 +1,4 @@
-use Rattle.std.proofs.Common.{true, sym, refl, ◌∙◌}
+use Rattle.std.proofs.Common.{true, sym, refl}
 use Rattle.std.proofs.lemmas.Bool.{both_ways}
 use Rattle.walk_law.proofs.Listing.{Laws}
 use Rattle.job_law.specs.Chain.{opens}
