@@ -7,6 +7,7 @@ use keys::range::Range;
 pub(crate) const MOST_PENDING: usize = 49;
 
 // The pending ranges are the first `depth` of these, the lowest last.
+// Kept an array and a depth: a vector of fixed capacity writes a default into each place that it leaves, and keys have none.
 #[derive(Drop)]
 pub(crate) struct Pending<K> {
     pub(crate) ranges: [Range<K>; MOST_PENDING],

@@ -26,6 +26,7 @@ fn place<K: Family>(rows: &[Record<K>], key: K) -> usize
 
 // Lists a key among so many rows at the beginning of some memory; those behind it move up by one. Answers whether there was
 // a place for one more; otherwise nothing is written.
+// Kept a count beside the memory: it need not be within it, and the answer tells.
 pub fn list<K: Family>(memory: &mut [Record<K>], count: usize, key: K) -> bool
     ensures answer { result ≡ nat_lt count (length memory.old) }
     ensures after { memory.new ≡ (if nat_lt count (length memory.old) then with_key K.Family.rank key (take count memory.old) ++ drop (suc count) memory.old else memory.old) }

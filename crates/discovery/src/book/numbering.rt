@@ -32,6 +32,7 @@ fn number<L: Line>(line: &mut L, rows: &mut [Record<L::Key>], first: u16)
     ensures after { rows.new ≡ numbered first (L.Line.means line.old) rows.old }
 {
     let mut next = first;
+    // Kept a loop: the line changes with each question, and what a closure has changed is not known after it.
     for row in rows.iter_mut() {
         let width = width_of(line, row.key);
         row.width = width;

@@ -23,12 +23,11 @@ pub enum NewestJob<K> {
 fn call_job<L: Line>(
     line: &mut L,
     book: &mut Book<'_, L::Key>,
-    job: Job<L::Key>,
+    mut job: Job<L::Key>,
     call: Call,
 ) -> NewestJob<L::Key>
     ensures { Link L.Key.Family.rank L.Key.Family.top L.Key.Family.first L.Key.Family.count (with_job (scene_of L.Key.Family.rank (L.Line.means line.old) book.old job)) call (state_of L.Key.Family.rank (L.Line.means line.new) book.new result) }
 {
-    let mut job = job;
     // Where a call is refused the phase tells what can be done next.
     match call {
         // A new search takes the place of the one before.
@@ -81,6 +80,7 @@ pub fn follow<L: Line>(
     ensures leads_here_as_promised { LeadsHere L.Key.Family.rank L.Key.Family.levels L.Key.Family.top L.Key.Family.first L.Key.Family.count (L.Line.means line.old) (memory_of book.old) (Open ∷ made false calls.now) (state_of L.Key.Family.rank (L.Line.means line.new) book.new result) }
 {
     let mut newest = NewestJob::Open(Job::open(line, book));
+    // Kept a loop: the line and the book change with each call, and what a closure has changed is not known after it.
     for call in calls {
         newest = newest.then(line, book, *call);
     }

@@ -38,6 +38,7 @@ fn all_stand<L: Line>(line: &mut L, rows: &[Record<L::Key>]) -> bool
     ensures same { L.Line.means line.new ≡ L.Line.means line.old }
     ensures value { result ≡ all_stand L.Key.Family.first L.Key.Family.count (L.Line.means line.old) rows.now }
 {
+    // Kept a loop: the line changes with each question, and what a closure has changed is not known after it.
     for row in rows {
         if !stands(line, *row) {
             return false;
@@ -58,6 +59,7 @@ fn write_row<L: Line>(line: &mut L, row: Record<L::Key>)
 fn write_rows<L: Line>(line: &mut L, rows: &[Record<L::Key>])
     ensures { L.Line.means line.new ≡ all_written L.Key.Family.rank L.Key.Family.first L.Key.Family.count (L.Line.means line.old) rows.now }
 {
+    // Kept a loop: the line changes with each row, and what a closure has changed is not known after it.
     for row in rows {
         write_row(line, *row);
     }

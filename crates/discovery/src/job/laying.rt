@@ -21,6 +21,7 @@ fn total_width<L: Line>(line: &mut L, rows: &[Record<L::Key>]) -> Option<u128>
     ensures value { result ≡ total_of (L.Line.means line.old) rows.now }
 {
     let mut total = 0;
+    // Kept a loop: the line changes with each question, and what a closure has changed is not known after it.
     for row in rows {
         total += u128::from(line.query(row.key)?.width);
     }

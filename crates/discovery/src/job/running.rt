@@ -50,7 +50,7 @@ fn ask_on<L: Line>(
     ensures questions { Questions L.Key.Family.rank (scene_of L.Key.Family.rank (L.Line.means line.old) book.old job.old) result (scene_of L.Key.Family.rank (L.Line.means line.new) book.new job.new) }
     ensures stops { (result ≡ budget) ⊎ NothingToAsk (scene_of L.Key.Family.rank (L.Line.means line.new) book.new job.new) }
 {
-    // Kept a loop: the line changes with each question, and what a closure has changed is not known after it.
+    // Kept a loop: the line and the book change with each question, and what a closure has changed is not known after it.
     for heard in 0..budget {
         if !ask(line, book, job) {
             return heard;

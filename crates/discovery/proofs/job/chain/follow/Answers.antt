@@ -13,9 +13,6 @@ laws g =
     let met = g.met.L.Key.Family in
     laws_from met.same_rank_same_key met.no_rank_above_top met.every_rank_up_to_top met.top_below_power met.levels_in_bounds
 
-pub loop-call-init : goal.loop-call-init
-loop-call-init g c line memory leads = record { done = Open ∷ []; leads_here = leads; others = refl }
-
 pub loop-call-preserved : goal.loop-call-preserved
 loop-call-preserved g c line memory leads =
     one_more g.L.Key.Family.rank g.L.Key.Family.levels g.L.Key.Family.top g.L.Key.Family.first g.L.Key.Family.count line memory c.args.calls.now
