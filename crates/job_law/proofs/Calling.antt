@@ -30,11 +30,11 @@ use Rattle.job_law.proofs.Writing.{OnLine, all_hold, live_all_written, fitted_al
 
 walking_is : (phase : Phase) → is_walking phase ≡ true → phase ≡ Walking
 walking_is Walking e = refl
-walking_is Walked e = absurd (both_ways false refl e)
-walking_is Laid e = absurd (both_ways false refl e)
-walking_is Set e = absurd (both_ways false refl e)
-walking_is Full e = absurd (both_ways false refl e)
-walking_is Contradicted e = absurd (both_ways false refl e)
+walking_is Walked e = cc
+walking_is Laid e = cc
+walking_is Set e = cc
+walking_is Full e = cc
+walking_is Contradicted e = cc
 
 module _ {K : Type 0} (rank : K → ℕ) (levels top first count : ℕ) (laws : Laws rank levels top) where
   -- A walking job stands.
@@ -97,8 +97,8 @@ module _ {K : Type 0} (rank : K → ℕ) (levels top first count : ℕ) (laws : 
         sym (ap width_of (ap (λ l. cond l (option_map footprint_of (m.at k)) None) live ∙ ap (option_map footprint_of) at)),
         subst (λ o. IfSome o (λ g. g.width ≡ 0 → g.address ≡ None)) at (bare k),
       )
-      by true None live at some = absurd (both_ways false refl some)
-      by false o live at some = absurd (both_ways false refl some)
+      by true None live at some = cc
+      by false o live at some = cc
 
   numbered_on_line : (m : Meaning K) (next : ℕ) (rs : List (Record K)) → Bare m → all_answered (asked_widths m rs) ≡ true → AllByRecursion (OnLine m) (numbered next m rs)
   numbered_on_line m next [] bare all = tt

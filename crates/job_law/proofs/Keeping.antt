@@ -2,7 +2,7 @@
 use Rattle.std.proofs.Common.{◌≡◌, ℕ, zero, suc, ◌+◌, ◌≤◌, true, false, leb, ◌⊎◌, List, length, is_some, Some, None, sum, Option, sym, refl, ap, ◌∙◌, subst, inl, inr, arith}
 use Rattle.std.proofs.ByRecursion.{All-weaker}
 use Rattle.std.proofs.lemmas.List.{length-map}
-use Rattle.std.proofs.lemmas.Bool.{both_ways, le-leb}
+use Rattle.std.proofs.lemmas.Bool.{le-leb}
 use Rattle.std.specs.Option.{option_map}
 use Rattle.std.specs.List.{AllByRecursion}
 use Rattle.keys.specs.declared.address.Address.{Address}
@@ -33,8 +33,8 @@ use Rattle.job_law.proofs.Writing.{HoldsAddress}
 -- An address that suits its width is there exactly if the width is above 0.
 suits_exactly : (first count w : ℕ) (o : Option Address) → address_suits first count w o ≡ true → is_some o ≡ leb 1 w
 suits_exactly first count zero None s = refl
-suits_exactly first count zero (Some a) s = absurd (both_ways false refl s)
-suits_exactly first count (suc w) None s = absurd (both_ways false refl s)
+suits_exactly first count zero (Some a) s = cc
+suits_exactly first count (suc w) None s = cc
 suits_exactly first count (suc w) (Some a) s = sym (le-leb 1 (suc w) (omega arith))
 
 same_widths : {a b v w v' w' : ℕ} → v ≡ v' → w ≡ w' → (a + v' ≤ b) ⊎ (b + w' ≤ a) → (a + v ≤ b) ⊎ (b + w ≤ a)
@@ -109,9 +109,9 @@ module _ {K : Type 0} (rank : K → ℕ) (levels top first count : ℕ) (laws : 
     of_phase Walking is (st, bare) =
         let law = stands_finds rank levels top (places s) laws (omega arith) s.line s.walk st in
         record {
-          lists_every_fitted_key_once = λ e. absurd (both_ways false refl e);
+          lists_every_fitted_key_once = λ e. cc;
           asks_few_questions = subst (λ n. s.walk.questions ≤ most_questions levels n) listed_count law.asks_few_questions;
-          complete_only_if_not_more_are_fitted = λ e. absurd (both_ways false refl e);
+          complete_only_if_not_more_are_fitted = λ e. cc;
           full_only_if_more_are_fitted = λ e. cc;
           never_contradicted = λ e. cc;
           set_on_the_line = λ e. cc;
@@ -130,9 +130,9 @@ module _ {K : Type 0} (rank : K → ℕ) (levels top first count : ℕ) (laws : 
     of_phase Full is (st, bare) =
         let law = stands_finds rank levels top (places s) laws (omega arith) s.line s.walk st in
         record {
-          lists_every_fitted_key_once = λ e. absurd (both_ways false refl e);
+          lists_every_fitted_key_once = λ e. cc;
           asks_few_questions = subst (λ n. s.walk.questions ≤ most_questions levels n) listed_count law.asks_few_questions;
-          complete_only_if_not_more_are_fitted = λ e. absurd (both_ways false refl e);
+          complete_only_if_not_more_are_fitted = λ e. cc;
           full_only_if_more_are_fitted = λ _. law.full_if_more_fitted_than_places is;
           never_contradicted = λ e. cc;
           set_on_the_line = λ e. cc;

@@ -1,7 +1,7 @@
 -- Rows that are numbered one after the other have spans of their own.
-use Rattle.std.proofs.Common.{◌≡◌, ℕ, zero, suc, ◌+◌, ◌≤◌, true, false, eqb, ◌⊎◌, List, [], ◌∷◌, map, length, Some, sum, Option, sym, refl, ap, ◌∙◌, inl, inr, arith}
+use Rattle.std.proofs.Common.{◌≡◌, ℕ, zero, suc, ◌+◌, ◌≤◌, true, eqb, ◌⊎◌, List, [], ◌∷◌, map, length, Some, sum, Option, sym, refl, ap, ◌∙◌, inl, inr, arith}
 use Rattle.std.proofs.lemmas.List.Sums.{sum_by-cons}
-use Rattle.std.proofs.lemmas.Bool.{and_from, le-leb, lt-ltb, or_cases, eqb-true, both_ways}
+use Rattle.std.proofs.lemmas.Bool.{and_from, le-leb, lt-ltb, or_cases, eqb-true}
 use Rattle.std.specs.List.{AllByRecursion}
 use Rattle.keys.specs.declared.address.Address.{Address}
 use Rattle.lines.specs.Meaning.{Meaning}
@@ -94,7 +94,7 @@ module _ {K : Type 0} where
 
   pub among_listed : (rank : K → ℕ) (j : ℕ) (rows : List (Record K)) → is_in j (row_ranks rank rows) ≡ true → (row : Record K) × Among row rows × (rank row.key ≡ j)
   unfolding is_in
-  among_listed rank j [] is = absurd (both_ways false refl is)
+  among_listed rank j [] is = cc
   among_listed rank j (x ∷ xs) is = by (λ in_rest. among_listed rank j xs in_rest) (or_cases (eqb j (rank x.key)) (is_in j (row_ranks rank xs)) is)
     where
       by : (is_in j (row_ranks rank xs) ≡ true → (row : Record K) × Among row xs × (rank row.key ≡ j))

@@ -1,6 +1,6 @@
 -- What a line means once the addresses of a book are written to its fixtures.
 use Rattle.std.proofs.Common.{◌≡◌, ℕ, zero, suc, ◌<◌, Bool, true, false, cond, eqb, List, [], ◌∷◌, Some, None, Option, refl, ap, ◌∙◌, arith}
-use Rattle.std.proofs.lemmas.Bool.{and_from, or_parts, eq-eqb, ne_eqb, le-leb, cond-true, cond-false, both_ways}
+use Rattle.std.proofs.lemmas.Bool.{and_from, or_parts, eq-eqb, ne_eqb, le-leb, cond-true, cond-false}
 use Rattle.std.specs.Option.{option_map}
 use Rattle.std.specs.List.{AllByRecursion}
 use Rattle.keys.specs.declared.address.Address.{Address}
@@ -46,8 +46,8 @@ module _ {K : Type 0} (rank : K → ℕ) (first count : ℕ) where
       → (g : Fitted) × ((written_to rank first count m k o).at k ≡ Some g) × (g.width ≡ w) × (g.address ≡ o)
   unfolding addressed
   at_itself m k zero None f live at width bare suits = (f, at, width, bare width)
-  at_itself m k zero (Some a) f live at width bare suits = absurd (both_ways false refl suits)
-  at_itself m k (suc w) None f live at width bare suits = absurd (both_ways false refl suits)
+  at_itself m k zero (Some a) f live at width bare suits = cc
+  at_itself m k (suc w) None f live at width bare suits = cc
   at_itself m k (suc w) (Some a) f live at width bare suits =
       let wide : wide_there (m.at k) ≡ true = ap wide_there at ∙ le-leb 1 f.width (omega arith) in
       let answer : set_answer first count m k a ≡ true = and_from _ _ live (and_from _ _ wide suits) in (

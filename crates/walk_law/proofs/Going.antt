@@ -31,7 +31,7 @@ walking r rs hushing listed questions = record {
 -- What is not fitted is not awake.
 pub unfitted_asleep : (o : Option Fitted) → is_some o ≡ false → awake_there o ≡ false
 unfitted_asleep None e = refl
-unfitted_asleep (Some f) e = absurd (both_ways true e refl)
+unfitted_asleep (Some f) e = cc
 
 module _ {K : Type 0} (rank : K → ℕ) (levels top places : ℕ) (laws : Laws rank levels top) (few_places : places ≤ 65536) where
   module _ (m : Meaning K) (r : Range ℕ) (rs : List (Range ℕ)) (listed : List ℕ) (questions : ℕ) where

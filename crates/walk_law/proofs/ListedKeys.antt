@@ -1,6 +1,6 @@
 -- What an honest answer lists.
 use Rattle.std.proofs.Common.{◌≡◌, ℕ, ◌^◌, ◌<◌, ◌≤◌, Bool, true, false, cond, not, ◌&&◌, ltb, List, [], ◌∷◌, length, Some, None, Option, sym, refl, ap, ◌∙◌, subst}
-use Rattle.std.proofs.lemmas.Bool.{cond_both, lt-leb, ltb-true, and_parts, both_ways}
+use Rattle.std.proofs.lemmas.Bool.{cond_both, lt-leb, ltb-true, and_parts}
 use Rattle.keys.specs.declared.range.Range.{Range}
 use Rattle.lines.specs.Meaning.{Meaning}
 use Rattle.lines.specs.Rules.{hush_answer}
@@ -61,7 +61,7 @@ module _ {K : Type 0} (rank : K → ℕ) (levels top places : ℕ) (laws : Laws 
   hush_lists_key k false w =
       let heard-is = ap (λ (v : Walk). v.listed) (hush_is_heard rank levels top places laws few_places m r rs listed questions k false w) in
       let counted = lt-leb (2 ^ 24) questions (not_spent rank levels top places laws few_places m r rs listed questions (Some k) w) in
-      (heard-is ∙ rw counted (no_lists_none r rs (walking r rs (Some k) listed questions)), rw counted (λ new. absurd (both_ways false refl new)))
+      (heard-is ∙ rw counted (no_lists_none r rs (walking r rs (Some k) listed questions)), rw counted (λ new. cc))
 
 -- What becomes of the listed keys: as they were, or with the key whose hush was next.
 pub data Outcome {K : Type 0} (rank : K → ℕ) (places : ℕ) (w : Walk) (a : Answer ℕ) : Type 0 where

@@ -1,6 +1,6 @@
 -- The book of a walk over a line: it lists fitted keys that are not awake, and every other fitted key is awake.
-use Rattle.std.proofs.Common.{◌≡◌, ℕ, ◌^◌, ◌<◌, ◌≤◌, true, false, cond, ◌&&◌, eqb, ◌⊎◌, List, [], length, sym, refl, ap, ◌∙◌, inl, inr, arith}
-use Rattle.std.proofs.lemmas.Bool.{and_parts, and_from, or_cases, or_parts, eqb-true, both_ways}
+use Rattle.std.proofs.Common.{◌≡◌, ℕ, ◌^◌, ◌<◌, ◌≤◌, true, false, cond, ◌&&◌, eqb, ◌⊎◌, List, [], length, sym, ap, ◌∙◌, inl, inr, arith}
+use Rattle.std.proofs.lemmas.Bool.{and_parts, and_from, or_cases, or_parts, eqb-true}
 use Rattle.std.specs.List.{AllByRecursion}
 use Rattle.lines.specs.Meaning.{Meaning, is_fitted, is_awake}
 use Rattle.lines.specs.Rules.{hush_answer, hushed}
@@ -35,8 +35,8 @@ module _ {K : Type 0} (rank : K → ℕ) (top places : ℕ) where
     ascends = tt;
     fits = omega arith;
     within = tt;
-    listed_fitted = λ k is. absurd (both_ways false refl is);
-    listed_asleep = λ k is. absurd (both_ways false refl is);
+    listed_fitted = λ k is. cc;
+    listed_asleep = λ k is. cc;
     awake_or_listed = λ k fitted _. all_awake k ∙ fitted;
   }
 

@@ -80,14 +80,7 @@ module _ (levels top : ℕ) where
         behind = b.3;
       }
 
-  -- A range of two keys or more has a level to spare, and its halves are nested in its place.
-  pub level_left : (r : Range ℕ) (rs : List (Range ℕ)) → Nested levels top r rs → r.lo < r.hi → (c : ℕ) × (n : Nested levels top r rs) × (n.own ≡ suc c)
-  level_left r rs n less = by n.own refl
-    where
-      by : (c : ℕ) → n.own ≡ c → (d : ℕ) × (k : Nested levels top r rs) × (k.own ≡ suc d)
-      by zero e = absurd (let one : 2 ^ n.own ≡ 1 = ap (λ x. 2 ^ x) e in omega arith)
-      by (suc c) e = (c, n, e)
-
+  -- The halves of a range of two keys or more are nested in its place.
   pub nested_halves : (r : Range ℕ) (rs : List (Range ℕ)) → Nested levels top r rs → r.lo < r.hi → Nested levels top (lower_half r) (upper_half r ∷ rs)
   nested_halves r rs n less = by n.own refl
     where

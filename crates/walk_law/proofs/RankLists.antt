@@ -64,7 +64,7 @@ all_in_rest x low xs (y ∷ ys) less (at, asc) (is, all) =
 pub length-within : (low : ℕ) (xs ys : List ℕ) → AscendsFrom low xs → AscendsFrom low ys → AllByRecursion (λ y. is_in y xs ≡ true) ys → length ys ≤ length xs
 unfolding is_in
 length-within low xs [] asc asc' all = omega arith
-length-within low [] (y ∷ ys) asc asc' (is, all) = absurd (both_ways false refl is)
+length-within low [] (y ∷ ys) asc asc' (is, all) = cc
 length-within low (x ∷ xs) (y ∷ ys) (at, asc) (at', asc') (is, all) =
     by_order (λ zs asc'' rest. length-within (suc x) xs zs asc asc'' rest) (cases_order x y)
   where

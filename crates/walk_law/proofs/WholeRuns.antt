@@ -1,6 +1,7 @@
 -- The law of the walk, from what holds from answer to answer.
 use Rattle.std.proofs.Common.{◌≡◌, ℕ, suc, ◌+◌, ◌*◌, ◌^◌, ◌<◌, ◌≤◌, true, false, eqb, ◌⊎◌, List, [], ◌∷◌, map, length, is_some, Some, None, Option, Result, sym, refl, ap, ◌∙◌, subst, subst₂, inl, inr, mul-le-mul, arith}
 use Rattle.std.proofs.ByRecursion.{All-weaker}
+use Rattle.std.proofs.lemmas.List.{length-map}
 use Rattle.std.proofs.lemmas.Bool.{both_ways, cases_Bool, or_right, or_left, or_cases, eq-eqb, eqb-true}
 use Rattle.std.specs.List.{AllByRecursion}
 use Rattle.keys.specs.declared.range.Range.{Range}
@@ -54,10 +55,6 @@ module _ {K : Type 0} (rank : K → ℕ) (levels top places : ℕ) (laws : Laws 
       let rest = keys_of xs within in
       (here.0 ∷ rest.0, λ i. here.1 i ∷ rest.1 i)
 
-  length-keys : (ks : List K) → length (map rank ks) ≡ length ks
-  length-keys [] = refl
-  length-keys (k ∷ ks) = ap suc (length-keys ks)
-
   all_of : (P : ℕ → Type 0) (ks : List K) → AllByRecursion P (map rank ks) → AllByRecursion (λ k. P (rank k)) ks
   all_of P [] all = tt
   all_of P (k ∷ ks) (here, all) = (here, all_of P ks all)
@@ -81,7 +78,7 @@ module _ {K : Type 0} (rank : K → ℕ) (levels top places : ℕ) (laws : Laws 
       let in_all = all_of (λ j. is_in j all ≡ true) found.0 (subst (AllByRecursion (λ j. is_in j all ≡ true)) (sym found.1) (in_itself all all (λ j is. is))) in
       record {
         keys = found.0;
-        count = sym (length-keys found.0) ∙ ap length found.1 ∙ length-put_in extra listed ∙ ap suc o.full;
+        count = sym (length-map found.0 rank) ∙ ap length found.1 ∙ length-put_in extra listed ∙ ap suc o.full;
         different = subst Ascends (sym found.1) (ascends_put_in 0 extra listed o.ascends (omega arith) o.extra_new);
         all_fitted = All-weaker _ _ (λ k is. by_which k (or_cases _ _ (sym (is_in_put_in (rank k) extra listed) ∙ is))) found.0 in_all;
       }
@@ -107,7 +104,7 @@ module _ {K : Type 0} (rank : K → ℕ) (levels top places : ℕ) (laws : Laws 
         let ranks = map rank more.keys in
         let within = of_all (λ j. is_in j listed ≡ true) more.keys (All-weaker _ _ is_listed more.keys more.all_fitted) in
         let short = length-within 0 listed ranks f.book.ascends more.different within in
-        let long = length-keys more.keys ∙ more.count in
+        let long = length-map more.keys rank ∙ more.count in
         let fits = f.book.fits in
         omega arith
 
