@@ -8,11 +8,11 @@ use Rattle.refusals.specs.declared.Refusal.TheVariants.{QuestionsSpent, OtherKin
 use Rattle.walk_law.specs.Listing.{lists_in, unless_refusal, lists_key}
 use Rattle.walk_law.specs.Ranks.{is_in, put_in}
 use Rattle.walk_law.specs.Run.{answer_ranks}
-use Rattle.walk_law.specs.Walk.{Walk, in_memory, after_yes, after_answer, is_one, ended, refusal_in, refusal_of, unless_refused, heard, told, told_unless, hearing_told, is_other_kind, most_pending}
+use Rattle.walk_law.specs.Walk.{Walk, walking, in_memory, after_yes, after_answer, is_one, ended, refusal_in, refusal_of, unless_refused, heard, told, told_unless, hearing_told, is_other_kind, most_pending}
 use Rattle.walk_law.specs.declared.phase.Phase.{Phase}
 use Rattle.walk_law.specs.declared.phase.Phase.TheVariants.{Walking, Walked, Laid, Set, Full, Contradicted}
 use Rattle.walk_law.specs.declared.question.Answer.{Answer}
-use Rattle.discovery.specs.Courses.{LeadsAs, taken, walking}
+use Rattle.discovery.specs.Courses.{LeadsAs, taken}
 use Rattle.discovery.specs.Pending.{without_first, first_of}
 use Rattle.discovery.specs.declared.walk.course.Course.{Course}
 use Rattle.discovery.specs.declared.walk.course.Course.TheVariants.{Drop, Probe}
@@ -54,7 +54,7 @@ module _ (w : Walk) (r : Range ℕ) (lowest : first_of w.pending ≡ Some r) whe
     abbrev listing : List ℕ → Walk
     listing listed = record { phase = w.phase; pending = w.pending; hushing = w.hushing; listed = listed; questions = w.questions }
 
-    is_walking : (listed : List ℕ) → listing listed ≡ walking r (without_first w.pending) w.hushing w.questions listed
+    is_walking : (listed : List ℕ) → listing listed ≡ walking r (without_first w.pending) w.hushing listed w.questions
     is_walking listed = λ i. record { phase = walks i; pending = behind i; hushing = w.hushing; listed = listed; questions = w.questions }
 
     pub course_leads : (rule : List (Range ℕ) → Walk → Walk) (before after : List ℕ) (course : Course ℕ) → LeadsAs rule r before after course

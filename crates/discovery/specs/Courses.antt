@@ -3,7 +3,7 @@ use Rattle.std.specs.Prelude.{◌≡◌, ℕ, suc, ◌<◌, cond, List, ◌∷�
 use Rattle.keys.specs.declared.range.Range.{Range}
 use Rattle.walk_law.specs.Run.{range_ranks}
 use Rattle.walk_law.specs.Walk as law
-use Rattle.walk_law.specs.declared.phase.Phase.TheVariants.{Walking, Contradicted}
+use Rattle.walk_law.specs.declared.phase.Phase.TheVariants.{Contradicted}
 use Rattle.discovery.specs.Pending.{without_first, has_memory}
 use Rattle.discovery.specs.Walks.{with_hush, with_probe}
 use Rattle.discovery.specs.declared.walk.course.Course.{Course}
@@ -25,20 +25,10 @@ taken (Split lower upper) w =
     cond (has_memory w.pending) (law.going_on (lower ∷ upper ∷ without_first w.pending) None w.listed (suc w.questions)) (law.ended Contradicted w)
 taken (End phase) w = law.ended phase w
 
--- A walk whose lowest pending range is this one, before those behind it.
-abbrev pub walking : Range ℕ → List (Range ℕ) → Option ℕ → ℕ → List ℕ → law.Walk
-walking r rs hushing questions listed = record {
-  phase = Walking;
-  pending = r ∷ rs;
-  hushing = hushing;
-  listed = listed;
-  questions = questions;
-}
-
 -- Whatever is pending behind a range, in memory, a course leads where a rule of the law does. The rule is told which ranks were
 -- listed; the course finds those that are then.
 abbrev pub LeadsAs : (List (Range ℕ) → law.Walk → law.Walk) → Range ℕ → List ℕ → List ℕ → Course ℕ → Type 0
 LeadsAs rule r before after course =
     (rs : List (Range ℕ)) (hushing : Option ℕ) (questions : ℕ)
     → length rs < law.most_pending
-    → law.in_memory (walking r rs hushing questions before) (rule rs (walking r rs hushing questions before)) ≡ taken course (walking r rs hushing questions after)
+    → law.in_memory (law.walking r rs hushing before questions) (rule rs (law.walking r rs hushing before questions)) ≡ taken course (law.walking r rs hushing after questions)

@@ -8,7 +8,7 @@ use Rattle.lines.specs.declared.answers.ProbeAnswer.{ProbeAnswer}
 use Rattle.lines.specs.declared.answers.ProbeAnswer.TheVariants.{Silent, Clear, Garbled}
 use Rattle.walk_law.specs.Ranks.{is_in, put_in}
 use Rattle.walk_law.specs.Run.{Honest, to_probe, to_hush, Step, Steps, no_step, then_step, range_ranks, probe_ranks, answer_ranks}
-use Rattle.walk_law.specs.Walk.{Walk, heard, after_probe, after_hush, after_yes, after_no, after_answer, is_one, in_range, hush_next, split_off, dropped}
+use Rattle.walk_law.specs.Walk.{Walk, walking, heard, after_probe, after_hush, after_yes, after_no, after_answer, is_one, in_range, hush_next, split_off, dropped}
 use Rattle.walk_law.specs.declared.phase.Phase.{Phase}
 use Rattle.walk_law.specs.declared.phase.Phase.TheVariants.{Walking, Walked, Laid, Set, Full, Contradicted}
 use Rattle.walk_law.specs.declared.question.Answer.{Answer}
@@ -17,16 +17,6 @@ use Rattle.walk_law.proofs.AnyAnswer.{Kept, kept_answer, fits_memory}
 use Rattle.walk_law.proofs.Honest.{NoneAwakeBelow, none_in_silent, some_in_loud, hushed_unanswered}
 use Rattle.walk_law.proofs.Listing.{Laws}
 use Rattle.walk_law.proofs.Standing.{Walks, Stands, StandsIn, most, drops, ends, hushes, splits, lists, lists_and_drops, lists_and_ends, overflows}
-
--- A walking walk, by its parts.
-abbrev pub walking : Range ℕ → List (Range ℕ) → Option ℕ → List ℕ → ℕ → Walk
-walking r rs hushing listed questions = record {
-  phase = Walking;
-  pending = r ∷ rs;
-  hushing = hushing;
-  listed = listed;
-  questions = questions;
-}
 
 -- What is not fitted is not awake.
 pub unfitted_asleep : (o : Option Fitted) → is_some o ≡ false → awake_there o ≡ false

@@ -9,12 +9,12 @@ use Rattle.lines.specs.declared.answers.ProbeAnswer.TheVariants.{Silent, Clear, 
 use Rattle.walk_law.specs.Listing.{is_new, lists_key}
 use Rattle.walk_law.specs.Ranks.{is_in, put_in}
 use Rattle.walk_law.specs.Run.{Honest, to_probe, to_hush, probe_ranks, answer_ranks}
-use Rattle.walk_law.specs.Walk.{Walk, heard, after_probe, after_yes, after_no, is_one, in_range}
+use Rattle.walk_law.specs.Walk.{Walk, walking, heard, after_probe, after_yes, after_no, is_one, in_range}
 use Rattle.walk_law.specs.declared.phase.Phase.{Phase}
 use Rattle.walk_law.specs.declared.phase.Phase.TheVariants.{Walking, Walked, Laid, Set, Full, Contradicted}
 use Rattle.walk_law.specs.declared.question.Answer.{Answer}
 use Rattle.walk_law.specs.declared.question.Answer.TheVariants as answer
-use Rattle.walk_law.proofs.Going.{walking, not_spent, probe_is_heard, hush_is_heard}
+use Rattle.walk_law.proofs.Going.{not_spent, probe_is_heard, hush_is_heard}
 use Rattle.walk_law.proofs.Listing.{Laws}
 use Rattle.walk_law.proofs.Standing.{Walks, Stands, StandsIn}
 

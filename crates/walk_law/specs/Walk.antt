@@ -24,6 +24,16 @@ pub record Walk : Type 0 where
   -- How many answers this walk has heard.
   pub questions : ℕ
 
+-- A walking walk: its lowest pending range, and those behind it.
+abbrev pub walking : Range ℕ → List (Range ℕ) → Option ℕ → List ℕ → ℕ → Walk
+walking r rs hushing listed questions = record {
+  phase = Walking;
+  pending = r ∷ rs;
+  hushing = hushing;
+  listed = listed;
+  questions = questions;
+}
+
 -- At first all keys, up to the highest rank, are one pending range.
 abbrev pub begun : ℕ → Walk
 begun top = record {

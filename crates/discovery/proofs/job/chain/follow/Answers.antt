@@ -1,4 +1,4 @@
-use Rattle.std.proofs.Common.{[], ◌∷◌, refl, rules}
+use Rattle.std.proofs.Common.{rules}
 use Rattle.walk_law.proofs.Listing.{Laws}
 use Rattle.job_law.specs.declared.call.Call.TheVariants.{Open}
 use Rattle.discovery.specs.Books.{memory_of}

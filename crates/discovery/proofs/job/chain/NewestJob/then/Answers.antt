@@ -1,5 +1,4 @@
-use Rattle.std.proofs.Common.{true, sym, refl}
-use Rattle.std.proofs.lemmas.Bool.{both_ways}
+use Rattle.std.proofs.Common.{sym}
 use Rattle.walk_law.proofs.Listing.{Laws}
 use Rattle.job_law.specs.Chain.{opens}
 use Rattle.discovery.proofs.Chaining.{goes_on, open_alone}
