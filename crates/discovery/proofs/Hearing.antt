@@ -19,10 +19,10 @@ use Rattle.discovery.specs.declared.walk.course.Course.TheVariants.{Drop, Probe}
 
 -- A key that was hushed and listed: its range is probed again, unless it is of one key.
 module _ (places k : ℕ) (r : Range ℕ) (before after : List ℕ) (new : is_in k before ≡ false) (free : ltb (length before) places ≡ true) (lists : after ≡ put_in k before) where
-  pub probes_again : is_one r ≡ false → LeadsAs (λ rs w. after_yes places k r rs w) r before after Probe
+  pub probes_again : is_one r ≡ false → LeadsAs (after_yes places k) r before after Probe
   probes_again several rs hushing questions room = rw (new, free, several, le-leb _ most_pending room, lists) refl
 
-  pub drops_it : is_one r ≡ true → LeadsAs (λ rs w. after_yes places k r rs w) r before after Drop
+  pub drops_it : is_one r ≡ true → LeadsAs (after_yes places k) r before after Drop
   drops_it one rs hushing questions room = rw (new, free, one, le-leb (length rs) most_pending (omega arith), lists) refl
 
 -- The lowest pending range, and those behind it.
@@ -57,12 +57,12 @@ module _ (w : Walk) (r : Range ℕ) (lowest : first_of w.pending ≡ Some r) whe
     is_walking : (listed : List ℕ) → listing listed ≡ walking r (without_first w.pending) w.hushing listed w.questions
     is_walking listed = λ i. record { phase = walks i; pending = behind i; hushing = w.hushing; listed = listed; questions = w.questions }
 
-    pub course_leads : (rule : List (Range ℕ) → Walk → Walk) (before after : List ℕ) (course : Course ℕ) → LeadsAs rule r before after course
-        → taken course (listing after) ≡ in_memory (listing before) (rule (without_first w.pending) (listing before))
+    pub course_leads : (rule : Range ℕ → List (Range ℕ) → Walk → Walk) (before after : List ℕ) (course : Course ℕ) → LeadsAs rule r before after course
+        → taken course (listing after) ≡ in_memory (listing before) (rule r (without_first w.pending) (listing before))
     course_leads rule before after course leads =
         ap (taken course) (is_walking after)
         ∙ sym (leads (without_first w.pending) w.hushing w.questions (let size = ap length behind in omega arith))
-        ∙ ap (λ v. in_memory v (rule (without_first w.pending) v)) (sym (is_walking before))
+        ∙ ap (λ v. in_memory v (rule r (without_first w.pending) v)) (sym (is_walking before))
 
 -- And where no range is pending.
 pub answer_to_none : (w : Walk) → first_of w.pending ≡ None → (places : ℕ) (hushing : Option ℕ) (a : Answer ℕ) → after_answer places w.pending hushing a w ≡ w

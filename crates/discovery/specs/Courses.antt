@@ -27,8 +27,8 @@ taken (End phase) w = law.ended phase w
 
 -- Whatever is pending behind a range, in memory, a course leads where a rule of the law does. The rule is told which ranks were
 -- listed; the course finds those that are then.
-abbrev pub LeadsAs : (List (Range ℕ) → law.Walk → law.Walk) → Range ℕ → List ℕ → List ℕ → Course ℕ → Type 0
+abbrev pub LeadsAs : (Range ℕ → List (Range ℕ) → law.Walk → law.Walk) → Range ℕ → List ℕ → List ℕ → Course ℕ → Type 0
 LeadsAs rule r before after course =
     (rs : List (Range ℕ)) (hushing : Option ℕ) (questions : ℕ)
     → length rs < law.most_pending
-    → law.in_memory (law.walking r rs hushing before questions) (rule rs (law.walking r rs hushing before questions)) ≡ taken course (law.walking r rs hushing after questions)
+    → law.in_memory (law.walking r rs hushing before questions) (rule r rs (law.walking r rs hushing before questions)) ≡ taken course (law.walking r rs hushing after questions)

@@ -61,7 +61,7 @@ pub(crate) fn after_probe<K: Family>(
     range: Range<K>,
     reply: ProbeAnswer<K>,
 ) -> Course<K>
-    ensures { LeadsAs (λ rs w. law.after_probe (range_ranks K.Family.rank range) rs (probe_ranks K.Family.rank reply) w) (range_ranks K.Family.rank range) (row_ranks K.Family.rank (rows_of book.now)) (row_ranks K.Family.rank (rows_of book.now)) (course_ranks K.Family.rank result) }
+    ensures { LeadsAs (λ r rs. law.after_probe r rs (probe_ranks K.Family.rank reply)) (range_ranks K.Family.rank range) (row_ranks K.Family.rank (rows_of book.now)) (row_ranks K.Family.rank (rows_of book.now)) (course_ranks K.Family.rank result) }
 {
     if matches!(reply, ProbeAnswer::Silent) {
         return Course::Drop;
@@ -75,7 +75,7 @@ pub(crate) fn after_probe<K: Family>(
 
 // Nobody replied to the hush of a key of the range: that is split, unless it is of one key.
 pub(crate) fn after_no<K: Family>(range: Range<K>) -> Course<K>
-    ensures { (listed : List ℕ) → LeadsAs (λ rs w. law.after_no (range_ranks K.Family.rank range) rs w) (range_ranks K.Family.rank range) listed listed (course_ranks K.Family.rank result) }
+    ensures { (listed : List ℕ) → LeadsAs law.after_no (range_ranks K.Family.rank range) listed listed (course_ranks K.Family.rank result) }
 {
     match split(range) {
         None => Course::End(Phase::Contradicted),
@@ -85,7 +85,7 @@ pub(crate) fn after_no<K: Family>(range: Range<K>) -> Course<K>
 
 // The key of the range that was hushed replied: it is listed.
 pub(crate) fn after_yes<K: Family>(book: &mut Book<'_, K>, range: Range<K>, key: K) -> Course<K>
-    ensures walk { LeadsAs (λ rs w. law.after_yes (places_of book.old) (K.Family.rank key) (range_ranks K.Family.rank range) rs w) (range_ranks K.Family.rank range) (row_ranks K.Family.rank (rows_of book.old)) (row_ranks K.Family.rank (rows_of book.new)) (course_ranks K.Family.rank result) }
+    ensures walk { LeadsAs (law.after_yes (places_of book.old) (K.Family.rank key)) (range_ranks K.Family.rank range) (row_ranks K.Family.rank (rows_of book.old)) (row_ranks K.Family.rank (rows_of book.new)) (course_ranks K.Family.rank result) }
     ensures book { BookAfter K.Family.rank (Some key) (is_new (places_of book.old) (K.Family.rank key) (row_ranks K.Family.rank (rows_of book.old))) book.old book.new }
 {
     if book.is_listed(key) {

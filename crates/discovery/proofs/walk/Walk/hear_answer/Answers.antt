@@ -28,7 +28,7 @@ returns-in-None-Probe-clause-walk g c =
     let r = range_ranks rank c.in-Some.range in
     let lowest = sym c.in-Some.ensures in
     c.take.ensures listed
-    ∙ course_leads w r lowest c.requires.walking (few_pending rank c.args.self.now.pending) (λ rs v. after_probe r rs (probe_ranks rank c.in-None-Probe.reply) v) listed listed (course_ranks rank c.after_probe.result) c.after_probe.ensures
+    ∙ course_leads w r lowest c.requires.walking (few_pending rank c.args.self.now.pending) (λ s rs. after_probe s rs (probe_ranks rank c.in-None-Probe.reply)) listed listed (course_ranks rank c.after_probe.result) c.after_probe.ensures
     ∙ ap (in_memory w) (sym (answer_as w r lowest rank (places_of book) c.args.self.now.hushing None c.args.answer (Probe c.in-None-Probe.reply) c.in-None-Probe.is-0 c.in-None-Probe.is-1))
 
 pub returns-in-None-Hush-clause-walk : goal.returns-in-None-Hush-clause-walk
@@ -58,7 +58,7 @@ returns-then-replied-clause-walk g c =
     let r = range_ranks rank c.in-Some.range in
     let lowest = sym c.in-Some.ensures in
     c.take-then-replied.ensures (row_ranks rank (rows_of c.after_yes.new.book))
-    ∙ course_leads w r lowest c.requires.walking (few_pending rank c.args.self.now.pending) (λ rs v. after_yes (places_of book) (rank c.in-Some-Hush.key) r rs v) listed (row_ranks rank (rows_of c.after_yes.new.book)) (course_ranks rank c.after_yes.result) c.after_yes.ensures.walk
+    ∙ course_leads w r lowest c.requires.walking (few_pending rank c.args.self.now.pending) (after_yes (places_of book) (rank c.in-Some-Hush.key)) listed (row_ranks rank (rows_of c.after_yes.new.book)) (course_ranks rank c.after_yes.result) c.after_yes.ensures.walk
     ∙ ap (in_memory w) (sym (answer_as w r lowest rank (places_of book) c.args.self.now.hushing (Some c.in-Some-Hush.key) c.args.answer (Hush true) c.in-Some-Hush.is-0 (c.in-Some-Hush.is-1 ∙ ap Hush c.if-replied.true)))
 
 pub returns-else-replied-clause-walk : goal.returns-else-replied-clause-walk
@@ -70,5 +70,5 @@ returns-else-replied-clause-walk g c =
     let r = range_ranks rank c.in-Some.range in
     let lowest = sym c.in-Some.ensures in
     c.take-else-replied.ensures listed
-    ∙ course_leads w r lowest c.requires.walking (few_pending rank c.args.self.now.pending) (λ rs v. after_no r rs v) listed listed (course_ranks rank c.after_no.result) (c.after_no.ensures listed)
+    ∙ course_leads w r lowest c.requires.walking (few_pending rank c.args.self.now.pending) after_no listed listed (course_ranks rank c.after_no.result) (c.after_no.ensures listed)
     ∙ ap (in_memory w) (sym (answer_as w r lowest rank (places_of book) c.args.self.now.hushing (Some c.in-Some-Hush.key) c.args.answer (Hush false) c.in-Some-Hush.is-0 (c.in-Some-Hush.is-1 ∙ ap Hush c.if-replied.false)))
