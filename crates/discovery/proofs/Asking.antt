@@ -11,6 +11,7 @@ use Rattle.walk_law.specs.declared.question.Question.TheVariants as question
 use Rattle.discovery.specs.Books.{memory_of, rows_of, memory_if, BookAfter}
 use Rattle.discovery.specs.Jobs.{Replies}
 use Rattle.discovery.specs.declared.book.Book.{Book}
+use Rattle.discovery.proofs.Rows.{memory_as_it_was}
 
 -- What a line replies to the next question is honest.
 pub honest_reply : {K : Type 0} (rank : K → ℕ) (m n : Meaning K) (w : Walk) (q : Question K) (a : Answer K)
@@ -25,11 +26,7 @@ module _ {K : Type 0} (rank : K → ℕ) (before after : Book K) where
   pub book_unlisted : (key : Option K) (listed : Bool) → BookAfter rank key listed before after → listed ≡ false
       → (memory_of after ≡ memory_of before) × (after.count ≡ before.count)
   book_unlisted key listed b old =
-      (b.memory ∙ ap (λ t. memory_if rank key t before) old ∙ by_key key, b.count ∙ ap (λ t. cond t (suc before.count) before.count) old)
-    where
-      by_key : (k : Option K) → memory_if rank k false before ≡ memory_of before
-      by_key None = refl
-      by_key (Some k) = refl
+      (b.memory ∙ ap (λ t. memory_if rank key t before) old ∙ memory_as_it_was rank key before, b.count ∙ ap (λ t. cond t (suc before.count) before.count) old)
 
   pub book_listed : ((x y : K) → rank x ≡ rank y → x ≡ y) → (key : Option K) (listed : Bool) → BookAfter rank key listed before after → listed ≡ true
       → (k : K) → option_map rank key ≡ Some (rank k)

@@ -28,19 +28,13 @@ module _ {K : Type 0} (rank : K → ℕ) (b : Book K) where
     pub ranks_listed : row_ranks rank (rows_of after) ≡ put_in (rank key) (row_ranks rank (rows_of b))
     ranks_listed = ap (row_ranks rank) rows_listed ∙ ranks_with_key rank key (rows_of b)
 
--- Nothing was listed, and nothing changed.
-pub book_untouched : {K : Type 0} (rank : K → ℕ) (key : Option K) (book : Book K) (listed : Bool) → listed ≡ false → BookAfter rank key listed book book
-book_untouched {K} rank key book listed old = record {
-  count = sym (ap (λ t. cond t (suc book.count) book.count) old);
-  memory = sym (ap (λ t. memory_if rank key t book) old ∙ by_key key);
-}
-  where
-    by_key : (key' : Option K) → memory_if rank key' false book ≡ memory_of book
-    by_key None = refl
-    by_key (Some k) = refl
+-- Nothing was listed, so the memory is as it was.
+pub memory_as_it_was : {K : Type 0} (rank : K → ℕ) (key : Option K) (book : Book K) → memory_if rank key false book ≡ memory_of book
+memory_as_it_was rank None book = refl
+memory_as_it_was rank (Some k) book = refl
 
--- The same, told by an equal key and an equal test.
-pub book_retold : {K : Type 0} (rank : K → ℕ) (before after : Book K) (key key' : Option K) (listed listed' : Bool) → key ≡ key' → listed ≡ listed'
-    → BookAfter rank key' listed' before after
-    → BookAfter rank key listed before after
-book_retold rank before after key key' listed listed' k t told = subst₂ (λ x y. BookAfter rank x y before after) (sym k) (sym t) told
+pub book_untouched : {K : Type 0} (rank : K → ℕ) (key : Option K) (book : Book K) (listed : Bool) → listed ≡ false → BookAfter rank key listed book book
+book_untouched rank key book listed old = record {
+  count = sym (ap (λ t. cond t (suc book.count) book.count) old);
+  memory = sym (ap (λ t. memory_if rank key t book) old ∙ memory_as_it_was rank key book);
+}

@@ -34,10 +34,9 @@ impl<K: Family> Walk<K> {
             Course::Drop => {
                 self.pending.drop_first();
                 self.hushing = None;
-                self.phase = self
-                    .pending
-                    .first()
-                    .map_or(Phase::Walked, |_| Phase::Walking);
+                if self.pending.first().is_none() {
+                    self.phase = Phase::Walked;
+                }
             }
             Course::Probe => self.hushing = None,
             Course::Hush(key) => self.hushing = Some(key),

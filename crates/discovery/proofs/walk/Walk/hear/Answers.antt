@@ -1,16 +1,16 @@
-use Rattle.std.proofs.Common.{◌≡◌, Err, sym, refl, ap, ◌∙◌, arith, rules}
+use Rattle.std.proofs.Common.{◌≡◌, Err, sym, refl, ap, ◌∙◌, subst, arith, rules}
 use Rattle.std.proofs.lemmas.Result.{err_from_is_err_and}
 use Rattle.std.specs.Option.{option_map}
 use Rattle.walk_law.specs.Run.{answer_ranks}
 use Rattle.walk_law.specs.Walk.{Walk, refusal_of, told}
-use Rattle.discovery.specs.Books.{rows_of, places_of}
+use Rattle.discovery.specs.Books.{rows_of, places_of, BookAfter}
 use Rattle.discovery.specs.Walks.{walk_of}
 use Rattle.walk_law.proofs.Listing.{Laws}
 use Rattle.walk_law.proofs.WholeRuns.{leads_on_by}
 use Rattle.discovery.proofs.FamilyLaws.{laws_from}
 use Rattle.discovery.proofs.Hearing.{refused_walk, refused_told, refused_lists, unrefused_walk, unrefused_told, unrefused_lists, unrefused}
 use Rattle.discovery.proofs.Refused.{is_refused, is_free}
-use Rattle.discovery.proofs.Rows.{book_untouched, book_retold}
+use Rattle.discovery.proofs.Rows.{book_untouched}
 use Rattle.discovery.proofs.walk.Walk.hear.Given as given
 use Rattle.discovery.proofs.walk.Walk.hear.Goals as goal
 
@@ -62,5 +62,5 @@ returns g c =
       walk = done;
       honest_answers_lead_on = λ m n reached honest.
           leads_on_by rank g.K.Family.levels g.K.Family.top (places_of book) (laws g) (omega arith) m n walk c.args.answer _ _ done told_is reached honest;
-      book = book_retold rank book c.hear_answer.new.book w.hushing w.hushing _ _ refl (unrefused_lists (places_of book) walk answer is) c.hear_answer.ensures.book;
+      book = subst (λ t. BookAfter rank w.hushing t book c.hear_answer.new.book) (sym (unrefused_lists (places_of book) walk answer is)) c.hear_answer.ensures.book;
     }
