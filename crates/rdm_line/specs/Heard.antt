@@ -7,7 +7,7 @@ use Rattle.keys.specs.declared.uid.Uid.{Uid}
 use Rattle.refusals.specs.declared.Refusal.{Refusal}
 use Rattle.rdm.specs.ReadReply.{DataOfReply, reply_at, info_at}
 use Rattle.rdm.specs.declared.read_reply.Expected.{Expected}
-use Rattle.rdm.specs.declared.read_reply.ReadReply.{ReadReply}
+use Rattle.rdm.specs.declared.reply_as_read.ReadReply.{ReadReply}
 use Rattle.rdm.specs.declared.reply.DeviceInfo.{DeviceInfo}
 use Rattle.rdm.specs.declared.reply.Response.TheVariants.{Ack, Nack}
 use Rattle.branch.specs.BranchReply.{branch_read}

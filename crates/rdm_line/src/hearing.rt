@@ -8,8 +8,9 @@ use crate::cable::Cable;
 use branch::read_branch_reply;
 use keys::uid::Uid;
 use lines::answers::{Footprint, ProbeAnswer};
-use rdm::read_reply::{Expected, ReadReply, read_device_info, read_reply};
+use rdm::read_reply::{Expected, read_device_info, read_reply};
 use rdm::reply::Response;
+use rdm::reply_as_read::ReadReply;
 
 impl Cable {
     // The answer to a branch question. What does not read as the reply of a key is garbled.

@@ -80,9 +80,9 @@ impl Line for DaliLine {
         ensures after { line_meaning self.new ≡ addressed random_rank 0 64 (line_meaning self.old) key address }
         ensures table_and_bus_after { LeftBySet key address self.old self.new }
     {
-        match ShortAddress::from_address(address) {
-            Some(short) => self.wire.program(key, short),
-            None => false,
+        match ShortAddress::try_from(address) {
+            Ok(short) => self.wire.program(key, short),
+            Err(_) => false,
         }
     }
 }
@@ -91,8 +91,8 @@ impl Line for DaliLine {
 fn footprint(address: Option<ShortAddress>) -> Footprint
     ensures { result ≡ footprint_at address }
 {
-    let address = address.map(|short| Address {
-        slot: u16::from(short.value),
-    });
-    Footprint { width: 1, address }
+    Footprint {
+        width: 1,
+        address: address.map(Address::from),
+    }
 }

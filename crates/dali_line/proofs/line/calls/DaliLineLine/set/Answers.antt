@@ -10,15 +10,15 @@ use Rattle.dali_line.proofs.line.calls.DaliLineLine.set.Goals as goal
 
 pub invariant_of-self : goal.invariant_of-self
 invariant_of-self c =
-    let (distinct, states) = stands_addressed c.args.self.now _ (random_number c.args.key) c.in-Some.short c.program.ensures.after.units_then in
+    let (distinct, states) = stands_addressed c.args.self.now _ (random_number c.args.key) c.in-Ok.short c.program.ensures.after.units_then in
     record { distinct = distinct; states = states }
 
-pub returns-in-Some : goal.returns-in-Some
-returns-in-Some c =
+pub returns-in-Ok : goal.returns-in-Ok
+returns-in-Ok c =
     let line = c.args.self.now in
     let key = c.args.key in
-    let a = c.in-Some.short in
-    let slot = c.in-Some.ensures in
+    let a = c.in-Ok.short in
+    let slot = c.in-Ok.ensures.0 in
     let wire = c.program.ensures.after in
     record {
       answer = c.program.ensures.answer ∙ one_told_is line key ∙ sym (set_answer_is key c.args.address line a slot);
@@ -32,5 +32,5 @@ returns-in-Some c =
       };
     }
 
-pub returns-in-None-clause-after : goal.returns-in-None-clause-after
-returns-in-None-clause-after c = means_not_addressed c.args.key c.args.address c.args.self.now c.in-None.ensures
+pub returns-in-Err-clause-after : goal.returns-in-Err-clause-after
+returns-in-Err-clause-after c = means_not_addressed c.args.key c.args.address c.args.self.now c.in-Err.ensures.0
