@@ -1,11 +1,11 @@
 -- Texts written one behind the other.
-use Rattle.std.proofs.Common.{◌≡◌, subst, length, List, [], ◌++◌, ℕ, ◌+◌, take, drop, sym, refl, ap, ◌∙◌, arith, length-append}
+use Rattle.std.proofs.Common.{◌≡◌, subst, List, [], ◌++◌, ℕ, ◌+◌, take, drop, sym, refl, ap, ◌∙◌, arith, length-append}
 use Rattle.std.proofs.lemmas.List.{take-append-drop}
-use Rattle.octets.specs.Buffer.{put_at}
+use Rattle.octets.specs.Buffer.{put_at, begun}
 use Rattle.std.specs.Borrow.{MutBor}
 use Rattle.octets.specs.Writer.{Lent, Wrote}
 use Rattle.octets.specs.declared.writer.Writer.{Writer}
-use Rattle.octets.proofs.Buffers.{put-put, puts_begun, take-begun}
+use Rattle.octets.proofs.Buffers.{put-put, put_at_start, take-begun}
 
 pub wrote_nothing : (w : Writer) → Wrote w [] w
 wrote_nothing w =
@@ -30,7 +30,6 @@ wrote_next a b c s t u first second is = subst (λ text. Wrote a text c) is (wro
 -- What is written can be read.
 pub reads_written : (buf : MutBor (List ℕ)) (a b : Writer) (s : List ℕ) → Lent buf a → Wrote a s b → take b.end b.buf.now ≡ s
 reads_written buf a b s lent wrote =
-    let n : b.end ≡ 0 + length s = omega (arith, lent.nothing, wrote.end) in
-    let whole : b.buf.now ≡ put_at a.buf.now 0 s = wrote.bytes ∙ ap (λ at. put_at a.buf.now at s) lent.nothing in
-    let begins = puts_begun a.buf.now s b.buf.now b.end (n, whole) in
-    ap (take b.end) begins.1 ∙ take-begun a.buf.now s b.end (sym begins.0)
+    let begins : b.buf.now ≡ begun a.buf.now s =
+    wrote.bytes ∙ ap (λ at. put_at a.buf.now at s) lent.nothing ∙ put_at_start a.buf.now s in
+    ap (take b.end) begins ∙ take-begun a.buf.now s b.end (omega (arith, lent.nothing, wrote.end))

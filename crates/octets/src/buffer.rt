@@ -1,20 +1,8 @@
-// Writing bytes into a lent buffer.
-ghost use Rattle.std.specs.Prelude.{◌≡◌, ◌+◌, ◌≤◌, length, None};
-ghost use Rattle.octets.specs.Buffer.{put_at};
+// Bytes at the beginning of a lent buffer.
+ghost use Rattle.std.specs.Prelude.{◌≡◌, None};
 ghost use Rattle.octets.specs.Writers.{answered, left_in};
 
 use refusals::Refusal;
-
-// Writes a part into a buffer from a place on, and touches nothing else. Answers the place behind it.
-pub fn put(buf: &mut [u8], at: usize, part: &[u8]) -> usize
-    requires { at + length part.now ≤ length buf.old }
-    ensures end { result ≡ at + length part.now }
-    ensures after { buf.new ≡ put_at buf.old at part.now }
-{
-    let end = at + part.len();
-    buf[at..end].copy_from_slice(part);
-    end
-}
 
 // Writes bytes to the beginning of a buffer and answers their number. Refuses a buffer that is too short (4), and then
 // writes nothing.
