@@ -4,7 +4,20 @@
 
 use requests::{LONGEST, ROOM, answer};
 use std::io;
-use std::io::{BufWriter, Read, Write};
+use std::io::{BufRead, BufReader, BufWriter, Read, Write};
+
+// Reads a line without its newline, but of one that is too long only as much as shows it. False at the end of the input.
+fn read_line<R: BufRead>(input: &mut R, line: &mut Vec<u8>) -> io::Result<bool> {
+    line.clear();
+    let most = LONGEST as u64 + 1;
+    let read = input.by_ref().take(most).read_until(b'\n', line)?;
+    if line.last() == Some(&b'\n') {
+        line.pop();
+    } else if line.len() > LONGEST {
+        input.skip_until(b'\n')?;
+    }
+    Ok(read > 0)
+}
 
 // Prints a line and its answer.
 fn print_answer<W: Write>(output: &mut W, line: &[u8], out: &mut [u8]) -> io::Result<()> {
@@ -18,29 +31,14 @@ fn print_answer<W: Write>(output: &mut W, line: &[u8], out: &mut [u8]) -> io::Re
 }
 
 fn main(rt: HostRuntime) -> io::Result<()> {
-    let mut input = rt.stdin();
+    let mut input = BufReader::new(rt.alloc(), rt.stdin())?;
     let mut output = BufWriter::new(rt.alloc(), rt.stdout())?;
-    let mut chunk = vec![in rt.alloc(); 0u8; 4096]?;
-    // One byte more than is answered, so that a longer line is known.
     let mut line = Vec::with_capacity(rt.alloc(), LONGEST + 1)?;
     let mut out = vec![in rt.alloc(); 0u8; ROOM]?;
-    let mut begun = false;
     for _ in 0..u64::MAX {
-        let read = input.read(chunk.as_mut_slice())?;
-        if read == 0 {
+        if !read_line(&mut input, &mut line)? {
             break;
         }
-        for b in chunk.iter().take(read) {
-            begun = *b != b'\n';
-            if !begun {
-                print_answer(&mut output, line.as_slice(), out.as_mut_slice())?;
-                line.clear();
-            } else if line.len() <= LONGEST {
-                line.push(*b)?;
-            }
-        }
-    }
-    if begun {
         print_answer(&mut output, line.as_slice(), out.as_mut_slice())?;
     }
     output.flush()
