@@ -70,13 +70,18 @@ fn check<L: Line>(line: &mut L, book: &Book<'_, L::Key>, phase: Phase) -> Result
     ensures same { L.Line.means line.new ≡ L.Line.means line.old }
     ensures value { result ≡ refused_or_done (rows_refusal phase L.Key.Family.first L.Key.Family.count (L.Line.means line.old) (rows_of book.now)) }
 {
-    if phase != Phase::Laid {
-        return Err(Refusal::WrongPhase);
+    match phase {
+        Phase::Laid => {
+            if all_stand(line, book.rows()) {
+                Ok(())
+            } else {
+                Err(Refusal::NoAnswer)
+            }
+        }
+        Phase::Walking | Phase::Walked | Phase::Set | Phase::Full | Phase::Contradicted => {
+            Err(Refusal::WrongPhase)
+        }
     }
-    if !all_stand(line, book.rows()) {
-        return Err(Refusal::NoAnswer);
-    }
-    Ok(())
 }
 
 impl<K: Family> Job<K> {

@@ -79,15 +79,14 @@ impl<K: Family> Walk<K> {
     fn check(&self, answer: Answer<K>) -> Result<(), Refusal>
         ensures { result ≡ refused_or_done (refusal_in self.now.phase self.now.questions (option_map K.Family.rank self.now.hushing) (answer_ranks K.Family.rank answer)) }
     {
-        if !self.phase.is_walking() {
-            return Err(Refusal::WrongPhase);
-        }
-        if self.questions >= MOST_QUESTIONS {
-            return Err(Refusal::QuestionsSpent);
-        }
-        match (self.hushing, answer) {
-            (None, Answer::Probe(_)) | (Some(_), Answer::Hush(_)) => Ok(()),
-            (None, Answer::Hush(_)) | (Some(_), Answer::Probe(_)) => Err(Refusal::OtherKind),
+        match (self.phase, self.hushing, answer) {
+            (Phase::Walking, _, _) if self.questions >= MOST_QUESTIONS => {
+                Err(Refusal::QuestionsSpent)
+            }
+            (Phase::Walking, None, Answer::Probe(_)) | (Phase::Walking, Some(_), Answer::Hush(_)) =>
+                Ok(()),
+            (Phase::Walking, _, _) => Err(Refusal::OtherKind),
+            _ => Err(Refusal::WrongPhase),
         }
     }
 
