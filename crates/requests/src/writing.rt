@@ -20,6 +20,7 @@ impl Writing {
     pub fn read(word: &[u8], line: &[u8]) -> Option<Writing>
         ensures { result ≡ writing_at word.now line.now }
     {
+        // Kept a chain of tests: of a match on byte strings a proof learns the lengths, and not which words failed.
         if is_word(word, b"branch") {
             branch(line)
         } else if is_word(word, b"mute") {

@@ -1,4 +1,5 @@
 // Refusals, bytes, keys and replies as text.
+// Kept functions, and no Display: a formatter may fail, and a writer whose room is known does not.
 
 #![tactic(auto)]
 

@@ -45,6 +45,7 @@ fn read_digits(base: u8, text: &[u8]) -> Option<u64>
     ensures value { result ≡ digits_after base 0 text.now }
     ensures bound { IfSome result (λ n. n < 16 ^ length text.now) }
 {
+    // Kept a loop: in a closure of a fold nothing bounds the number so far, and the product might not fit.
     let mut number = 0u64;
     for c in text {
         let digit = digit_in(base, *c)?;

@@ -35,6 +35,7 @@ fn main(rt: HostRuntime) -> io::Result<()> {
     let mut output = BufWriter::new(rt.alloc(), rt.stdout())?;
     let mut line = Vec::with_capacity(rt.alloc(), LONGEST + 1)?;
     let mut out = vec![in rt.alloc(); 0u8; ROOM]?;
+    // Kept a count: a loop has to end, and no number tells how much input comes.
     for _ in 0..u64::MAX {
         if !read_line(&mut input, &mut line)? {
             break;
