@@ -2,7 +2,7 @@
 
 #![tactic(auto)]
 
-ghost use Rattle.std.specs.Prelude.{◌≡◌, ◌+◌, ◌≤◌, length, if◌then◌else◌, Ok, Err, nat_lt};
+ghost use Rattle.std.specs.Prelude.{◌≡◌, ◌≤◌, length, if◌then◌else◌, Ok, Err, nat_lt};
 ghost use Rattle.octets.specs.Buffer.{begun};
 ghost use Rattle.octets.specs.Writer.{HasRoom, Wrote};
 ghost use Rattle.refusals.specs.declared.Refusal.TheVariants.{BufferTooShort};

@@ -1,5 +1,5 @@
 // Hexadecimal numbers and bytes, in capital digits.
-ghost use Rattle.std.specs.Prelude.{◌≡◌, ◌*◌, ◌/◌, ◌^◌, ◌<◌, ◌≤◌, length, IfSome, Some};
+ghost use Rattle.std.specs.Prelude.{◌≡◌, ◌*◌, ◌/◌, ◌^◌, ◌<◌, length, IfSome, Some};
 ghost use Rattle.octets.specs.Writer.{HasRoom, Wrote};
 ghost use Rattle.text.specs.Hexadecimal.{hex_at, hex_text, all_hex, hex_pairs, byte_of, bytes_of, hex_bytes, bytes_read, bytes_left};
 
