@@ -1,5 +1,5 @@
 -- The rows of a book as a part of its memory.
-use Rattle.std.proofs.Common.{◌≡◌, ℕ, suc, ◌<◌, Bool, false, cond, ltb, length, take, drop, Some, None, Option, sym, refl, ap, ◌∙◌, subst₂, arith}
+use Rattle.std.proofs.Common.{◌≡◌, ℕ, suc, ◌<◌, Bool, false, cond, ltb, length, take, drop, Some, None, Option, sym, refl, ap, ◌∙◌, arith}
 use Rattle.std.proofs.lemmas.List.{take_at, length-map, length-take-le}
 use Rattle.records.specs.Rows.{row_ranks, with_key}
 use Rattle.records.proofs.Places.{length-with_key, ranks_with_key}

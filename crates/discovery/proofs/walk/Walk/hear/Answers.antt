@@ -1,6 +1,5 @@
-use Rattle.std.proofs.Common.{◌≡◌, Err, sym, refl, ap, ◌∙◌, subst, arith, rules}
+use Rattle.std.proofs.Common.{◌≡◌, Err, sym, refl, ap, ◌∙◌, subst, arith}
 use Rattle.std.proofs.lemmas.Result.{err_from_is_err_and}
-use Rattle.std.specs.Option.{option_map}
 use Rattle.walk_law.specs.Run.{answer_ranks}
 use Rattle.walk_law.specs.Walk.{Walk, refusal_of, told}
 use Rattle.discovery.specs.Books.{rows_of, places_of, BookAfter}
@@ -8,7 +7,7 @@ use Rattle.discovery.specs.Walks.{walk_of}
 use Rattle.walk_law.proofs.Listing.{Laws}
 use Rattle.walk_law.proofs.WholeRuns.{leads_on_by}
 use Rattle.discovery.proofs.FamilyLaws.{laws_from}
-use Rattle.discovery.proofs.Hearing.{refused_walk, refused_told, refused_lists, unrefused_walk, unrefused_told, unrefused_lists, unrefused}
+use Rattle.discovery.proofs.Hearing.{refused_walk, refused_told, refused_lists, unrefused_walk, unrefused_told, unrefused_lists}
 use Rattle.discovery.proofs.Refused.{is_refused, is_free}
 use Rattle.discovery.proofs.Rows.{book_untouched}
 use Rattle.discovery.proofs.walk.Walk.hear.Given as given
@@ -39,13 +38,6 @@ returns-in_err-check g c =
           leads_on_by rank g.K.Family.levels g.K.Family.top (places_of book) (laws g) (omega arith) m n walk c.args.answer walk _ walk_is told_is reached honest;
       book = book_untouched rank w.hushing book _ (refused_lists (places_of book) walk answer refusal is);
     }
-
-pub hear_answer-requires : goal.hear_answer-requires
-hear_answer-requires g c =
-    let rank = g.K.Family.rank in
-    let w = c.args.self.now in
-    let free = unrefused w.phase w.questions (option_map rank w.hushing) (answer_ranks rank c.args.answer) (is_free (refusal_of (walk_of rank w (rows_of c.args.book.now)) (answer_ranks rank c.args.answer)) (sym c.in_ok-check.was ∙ c.check.ensures)) in
-    (search rules, (search (rules, free.0), search (rules, free.1)))
 
 pub returns : goal.returns
 returns g c =
