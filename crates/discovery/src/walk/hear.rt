@@ -51,7 +51,7 @@ impl<K: Family> Walk<K> {
         }
     }
 
-    // What an answer of the right kind makes of the walk.
+    // What an answer makes of the walk while questions are counted.
     fn hear_answer(&mut self, book: &mut Book<'_, K>, answer: Answer<K>)
         requires few { self.old.questions < 2 ^ 24 }
         requires walking { self.old.phase ≡ Walking }
@@ -70,6 +70,7 @@ impl<K: Family> Walk<K> {
                     self.take(after_no(range));
                 }
             }
+            // An answer to the other kind of question changes nothing.
             (None, Answer::Hush(_)) => {}
             (Some(_), Answer::Probe(_)) => {}
         }
