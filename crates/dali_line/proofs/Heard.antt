@@ -68,14 +68,14 @@ address_byte u = stored_byte u.address
 
 -- What is read of the one reply, or of none or several.
 pub one_told : (us : List Unit) (byte : ℕ) (r : Option (Option ShortAddress)) → One byte ≡ received (map address_byte us) → StoredAt byte r → r ≡ told us
-one_told [] byte r e is = absurd (let z : ◌≡◌ {A = ℕ} 0 1 = cc in omega arith)
+one_told [] byte r e is = cc
 one_told (u ∷ []) byte r e is = reply_told u.address byte r (cc) is
-one_told (u ∷ v ∷ more) byte r e is = absurd (let z : ◌≡◌ {A = ℕ} 0 1 = cc in omega arith)
+one_told (u ∷ v ∷ more) byte r e is = cc
 
 pub none_told : (us : List Unit) (give : Unit → ℕ) (r : Received) → r ≡ received (map give us) → (r ≡ Nothing) ⊎ (r ≡ Several) → None ≡ told us
 none_told [] give r e none = refl
-none_told (u ∷ []) give r e (inl none) = absurd (let z : ◌≡◌ {A = ℕ} 0 1 = cc in omega arith)
-none_told (u ∷ []) give r e (inr none) = absurd (let z : ◌≡◌ {A = ℕ} 0 1 = cc in omega arith)
+none_told (u ∷ []) give r e (inl none) = cc
+none_told (u ∷ []) give r e (inr none) = cc
 none_told (u ∷ v ∷ more) give r e none = refl
 
 -- The one reply, if every unit would give the same.

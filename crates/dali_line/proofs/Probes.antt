@@ -23,7 +23,7 @@ use Rattle.dali_line.specs.declared.line.DaliLine.{DaliLine}
 
 -- A key that has a unit is among the numbers.
 among : (us : List Unit) (k : RandomAddress) (u : Unit) → unit_at us k ≡ Some u → is_among (random_number k) (map unit_number us) ≡ true
-among [] k u e = absurd (let z : ◌≡◌ {A = ℕ} 0 1 = cc in omega arith)
+among [] k u e = cc
 among (v ∷ us) k u e = by (eqb (unit_number v) (random_number k)) refl e (among us k u)
   where
     by : (t : Bool) → eqb (unit_number v) (random_number k) ≡ t
@@ -62,7 +62,7 @@ one_passes test (v ∷ us) distinct e =
 
 -- If the unit of a key passes a test, then one does.
 passes_there : (test : Unit → Bool) (us : List Unit) (k : RandomAddress) (u : Unit) → unit_at us k ≡ Some u → test u ≡ true → list_any test us ≡ true
-passes_there test [] k u at passes = absurd (let z : ◌≡◌ {A = ℕ} 0 1 = cc in omega arith)
+passes_there test [] k u at passes = cc
 passes_there test (v ∷ us) k u at passes = by (eqb (unit_number v) (random_number k)) at (λ rest. passes_there test us k u rest passes)
   where
     by : (t : Bool) → cond t (Some v) (unit_at us k) ≡ Some u

@@ -1,5 +1,5 @@
 -- What the functions of the line leave of its meaning.
-use Rattle.std.specs.Prelude.{◌≡◌, ℕ, Bool, true, false, cond, not, ◌&&◌, ◌||◌, List, [], ◌∷◌, is_some, IfSome, Some, None, filter, Option, ◌==◌, nat_eq}
+use Rattle.std.specs.Prelude.{◌≡◌, Bool, true, false, cond, not, ◌&&◌, ◌||◌, List, [], ◌∷◌, is_some, IfSome, Some, None, filter, Option, ◌==◌, nat_eq}
 use Rattle.std.proofs.Math.Path.{refl, sym, ap}
 use Rattle.std.proofs.Common.{◌∙◌, arith}
 use Rattle.std.proofs.Math.Bool.{and-true}
@@ -85,7 +85,7 @@ module _
         → option_map (λ u. fixture_of (f u)) o ≡ cond (live && is_some there) (cond here (option_map g (option_map fixture_of o)) (option_map fixture_of o)) (option_map fixture_of o)
     at_one live None there here fit number same = nobody (live && is_some there) here
     at_one false (Some u) there here fit number same = ap (λ v. Some (fixture_of v)) (shut u fit)
-    at_one true (Some u) None true fit number same = absurd (let z : ◌≡◌ {A = ℕ} 0 1 = cc (same refl) in omega arith)
+    at_one true (Some u) None true fit number same = cc (same refl)
     at_one true (Some u) None false fit number same =
         ap Some (open' u (not-true _ fit) ∙ ap (λ t. cond t (g (fixture_of u)) (fixture_of u)) number)
     at_one true (Some u) (Some v) true fit number same =

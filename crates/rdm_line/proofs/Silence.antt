@@ -1,5 +1,5 @@
 -- A probe is silent exactly if no key of the range is awake.
-use Rattle.std.proofs.Common.{◌≡◌, ℕ, ◌≤◌, Bool, true, false, cond, not, ◌&&◌, leb, List, [], ◌∷◌, map, IfSome, Some, None, Ok, Err, filter, Option, Result, sym, refl, ap, ◌∙◌, arith}
+use Rattle.std.proofs.Common.{◌≡◌, ℕ, ◌≤◌, Bool, true, false, cond, not, ◌&&◌, leb, List, [], ◌∷◌, map, IfSome, Some, None, Ok, Err, filter, Option, Result, sym, refl, ap, ◌∙◌}
 use Rattle.std.proofs.ByRecursion.{All-weaker}
 use Rattle.std.proofs.lemmas.Bool.{both_ways, and_parts, and_from}
 use Rattle.std.specs.Option.{option_map}
@@ -25,24 +25,18 @@ use Rattle.rdm_line.specs.Keys.{number_from_rank, rank_from_number}
 use Rattle.rdm_line.specs.Meanings.{live_meaning}
 
 -- Silence is heard from nobody.
-clear_speaks : (n : ℕ) → Clear n ≡ Silent → ⊥
-clear_speaks n e = let z : ◌≡◌ {A = ℕ} 0 1 = cc in omega arith
-
-garbled_speaks : ◌≡◌ {A = ProbeAnswer ℕ} Garbled Silent → ⊥
-garbled_speaks e = let z : ◌≡◌ {A = ℕ} 0 1 = cc in omega arith
-
 read_speaks : (r : Result ℕ Refusal) → read_as r ≡ Silent → ⊥
-read_speaks (Ok n) e = clear_speaks n e
-read_speaks (Err refusal) e = garbled_speaks e
+read_speaks (Ok n) e = cc
+read_speaks (Err refusal) e = cc
 
 silent_from_nobody : (mode : Mode) (keys : List Uid) → heard_from mode keys ≡ Silent → keys ≡ []
 unfolding heard_from
 silent_from_nobody mode [] e = refl
-silent_from_nobody Garble (key ∷ []) e = absurd (clear_speaks _ e)
-silent_from_nobody Garble (key ∷ other ∷ others) e = absurd (garbled_speaks e)
+silent_from_nobody Garble (key ∷ []) e = cc
+silent_from_nobody Garble (key ∷ other ∷ others) e = cc
 silent_from_nobody Or (key ∷ others) e = absurd (read_speaks _ e)
 silent_from_nobody And (key ∷ others) e = absurd (read_speaks _ e)
-silent_from_nobody Lowest (key ∷ others) e = absurd (clear_speaks _ e)
+silent_from_nobody Lowest (key ∷ others) e = cc
 
 nobody_silent : (mode : Mode) → heard_from mode [] ≡ Silent
 unfolding heard_from
@@ -50,8 +44,8 @@ nobody_silent mode = refl
 
 silent_by_number : (r : ProbeAnswer Uid) → answer_number r ≡ Silent → r ≡ Silent
 silent_by_number Silent e = refl
-silent_by_number (Clear key) e = absurd (clear_speaks (uid_number key) e)
-silent_by_number Garbled e = absurd (garbled_speaks e)
+silent_by_number (Clear key) e = cc
+silent_by_number Garbled e = cc
 
 -- Nobody is kept by a test that all fail.
 none_kept : (test : Fixture → Bool) (fs : List Fixture) → AllByRecursion (λ f. test f ≡ false) fs → filter test fs ≡ []
@@ -60,13 +54,13 @@ none_kept test (f ∷ fs) (this, fail) = rw this (none_kept test fs fail)
 
 -- Somebody is kept where what is found passes.
 found_kept : (test : Fixture → Bool) (fs : List Fixture) (key : Uid) (f : Fixture) → fixture_at fs key ≡ Some f → test f ≡ true → filter test fs ≡ [] → ⊥
-found_kept test [] key f is pass none = let z : ◌≡◌ {A = ℕ} 0 1 = cc in omega arith
+found_kept test [] key f is pass none = cc
 found_kept test (g ∷ fs) key f is pass none = by (has_key key g) (test g) refl is none (found_kept test fs key f)
   where
     by : (here kept : Bool) → test g ≡ kept → cond here (Some g) (fixture_at fs key) ≡ Some f → cond kept (g ∷ filter test fs) (filter test fs) ≡ []
         → (fixture_at fs key ≡ Some f → test f ≡ true → filter test fs ≡ [] → ⊥)
         → ⊥
-    by here true e found none later = let z : ◌≡◌ {A = ℕ} 0 1 = cc in omega arith
+    by here true e found none later = cc
     by true false e found none later =
         let same : g ≡ f = cc in
         both_ways (test f) (ap test (sym same) ∙ e) pass
@@ -74,7 +68,7 @@ found_kept test (g ∷ fs) key f is pass none = by (has_key key g) (test g) refl
 
 keys_of_none : (fs : List Fixture) → map (λ f. f.key) fs ≡ [] → fs ≡ []
 keys_of_none [] e = refl
-keys_of_none (f ∷ fs) e = let z : ◌≡◌ {A = ℕ} 0 1 = cc in absurd (omega arith)
+keys_of_none (f ∷ fs) e = cc
 
 -- A line with an awake key is live.
 awake_live : (m : Meaning Uid) → Sound 1 512 m → (k : Uid) → is_awake m k ≡ true → m.live ≡ true
