@@ -8,13 +8,13 @@ use Rattle.keys.specs.declared.random_address.RandomAddress.{RandomAddress}
 use Rattle.keys.specs.declared.range.Range.{Range}
 use Rattle.lines.specs.Meaning.{is_awake, awake_there}
 use Rattle.lines.specs.Rules.{Probed}
+use Rattle.lines.specs.Tables.{found_passes}
 use Rattle.lines.specs.Twice.{is_among, has_twice}
 use Rattle.lines.specs.declared.answers.ProbeAnswer.{ProbeAnswer}
 use Rattle.lines.specs.declared.answers.ProbeAnswer.TheVariants.{Silent, Garbled}
 use Rattle.units.specs.State.{is_enabled}
 use Rattle.units.specs.declared.unit.Unit.{Unit}
 use Rattle.dali_line.specs.Ranks.{number_le, rank_le}
-use Rattle.dali_line.specs.Tables.{unit_at_number}
 use Rattle.dali_line.specs.Calls.{probe_answer}
 use Rattle.dali_line.specs.Controller.{compares_up_to}
 use Rattle.dali_line.specs.Meaning.{fixture_of, fitted_units, line_meaning}
@@ -89,7 +89,7 @@ module _ (line : DaliLine) (range : Range RandomAddress) where
           absurd (both_ways _ (sym (ap (λ o. awake_there (option_map fixture_of o)) at) ∙ asleep u.key within) enabled)
 
   one_awake : (k : RandomAddress) → random_rank k ≤ random_rank range.hi → is_awake (line_meaning line) k ≡ true → list_any (compares_up_to (random_number range.hi)) (fitted_units line) ≡ true
-  one_awake k within awake = by (unit_at (fitted_units line) k) refl awake (unit_at_number (fitted_units line) k)
+  one_awake k within awake = by (unit_at (fitted_units line) k) refl awake (found_passes (λ u. eqb (unit_number u) (random_number k)) (fitted_units line))
     where
       by : (o : Option Unit) → unit_at (fitted_units line) k ≡ o
           → awake_there (option_map fixture_of o) ≡ true

@@ -1,12 +1,13 @@
 -- What a line keeps while its units change: their keys are distinct, and their states fit whether it is live.
 use Rattle.std.proofs.Common.{◌≡◌, ℕ, Bool, true, false, List, map, refl, ap, ◌∙◌}
 use Rattle.dali.specs.declared.short_address.ShortAddress.{ShortAddress}
+use Rattle.keys.specs.RandomAddress.{random_number}
+use Rattle.lines.specs.Tables.{values_kept, all_kept}
 use Rattle.lines.specs.Twice.{has_twice}
 use Rattle.units.specs.Unit.{with_state}
 use Rattle.units.specs.declared.state.State.TheVariants.{Disabled, Enabled}
 use Rattle.units.specs.declared.unit.Unit.{Unit}
 use Rattle.dali_line.specs.Meaning.{fitted_units}
-use Rattle.dali_line.specs.Tables.{numbers_kept, all_fit_map}
 use Rattle.dali_line.specs.Changes.{withdrawn_keeps, withdrawn_fits, addressed_keeps, addressed_fits}
 use Rattle.dali_line.specs.Calls.{changed}
 use Rattle.dali_line.specs.Controller.{withdrawn_at, addressed_at}
@@ -25,8 +26,8 @@ module _ (line : DaliLine) (units : List Unit) where
       → Stands live
   stands f live keeps fit e =
       let us = fitted_units line in (
-        ap (λ l. has_twice (map unit_number l)) e ∙ ap has_twice (numbers_kept f keeps us) ∙ line.distinct,
-        ap (all_fit live) e ∙ all_fit_map f line.live live fit us line.states,
+        ap (λ l. has_twice (map unit_number l)) e ∙ ap has_twice (values_kept unit_number f (λ u. ap random_number (keeps u)) us) ∙ line.distinct,
+        ap (all_fit live) e ∙ all_kept (fits line.live) (fits live) f fit us line.states,
       )
 
   pub stands_enabled : units ≡ changed (with_state Enabled) line → Stands true

@@ -15,6 +15,7 @@ use Rattle.dali.specs.declared.short_address.ShortAddress.{ShortAddress}
 use Rattle.lines.proofs.Meanings.{some_mapped}
 use Rattle.lines.specs.Meaning.{Fitted, Meaning, Sound, SoundFixture}
 use Rattle.lines.specs.Rules.{with_awake, with_address, changed_at, roused, rested, hush_answer, hushed, footprint_of, query_answer, wide_there, set_answer, addressed}
+use Rattle.lines.specs.Tables.{found_changed, found_passes, found_keeps}
 use Rattle.units.specs.State.{is_disabled, is_enabled}
 use Rattle.units.specs.Unit.{with_state}
 use Rattle.units.specs.declared.state.State.{State}
@@ -22,7 +23,7 @@ use Rattle.units.specs.declared.state.State.TheVariants.{Disabled, Enabled, With
 use Rattle.units.specs.declared.unit.Unit.{Unit}
 use Rattle.dali_line.specs.Changes.{withdrawn_shut, withdrawn_open, withdrawn_keeps, addressed_shut, addressed_open, addressed_keeps}
 use Rattle.dali_line.specs.Ranks.{same_tests, same_key}
-use Rattle.dali_line.specs.Tables.{unit_at_map, unit_at_number, unit_at_fits, selected_are}
+use Rattle.dali_line.specs.Tables.{selected_are}
 use Rattle.dali_line.specs.Calls.{changed}
 use Rattle.dali_line.specs.Controller.{selected_at, withdrawn_at, addressed_at, told}
 use Rattle.dali_line.specs.Meaning.{fixture_of, footprint_at, slot_of, fitted_units, line_meaning}
@@ -48,7 +49,7 @@ at_changed : (line : DaliLine) (units : List Unit) (f : Unit → Unit) → ((u :
     → option_map fixture_of (unit_at units k) ≡ option_map (λ u. fixture_of (f u)) (unit_at (fitted_units line) k)
 at_changed line units f keeps e k =
     ap (λ us. option_map fixture_of (unit_at us k)) e
-    ∙ ap (option_map fixture_of) (unit_at_map f keeps (fitted_units line) k)
+    ∙ ap (option_map fixture_of) (found_changed (λ u. unit_number u == random_number k) f (λ u. ap (λ x. random_number x == random_number k) (keeps u)) (fitted_units line))
     ∙ mapped_mapped fixture_of f (unit_at (fitted_units line) k)
 
 module _ (line : DaliLine) (units : List Unit) where
@@ -112,8 +113,8 @@ module _
         λ k.
         at_changed line units f keeps e k
         ∙ at_one line.live (unit_at us k) (unit_at us key) (random_number k == random_number key)
-        (unit_at_fits line.live us k line.states)
-        (same_number k (unit_at us k) (unit_at_number us k))
+        (found_keeps (λ u. unit_number u == random_number k) (fits line.live) us line.states)
+        (same_number k (unit_at us k) (found_passes (λ u. unit_number u == random_number k) us))
         (λ is. ap (unit_at us) (same_key k key (eqb-true (random_number k) (random_number key) is)))
         ∙ ap (λ t. cond (line.live && there) (cond t (option_map g (m.at k)) (m.at k)) (m.at k)) (sym (same_tests k key)) in
         elim (line.live && there) as
@@ -211,7 +212,7 @@ module _ (line : DaliLine) (key : RandomAddress) where
 
 -- What every meaning keeps.
 pub sound : (line : DaliLine) → Sound 0 64 (line_meaning line)
-sound line k = by (unit_at (fitted_units line) k) (unit_at_fits line.live (fitted_units line) k line.states)
+sound line k = by (unit_at (fitted_units line) k) (found_keeps (λ u. unit_number u == random_number k) (fits line.live) (fitted_units line) line.states)
   where
     in_the_family : (a : Option ShortAddress) → IfSome (option_map slot_of a) (λ s. in_family 0 64 s ≡ true)
     in_the_family (Some a) = short_in_family a (slot_of a) refl

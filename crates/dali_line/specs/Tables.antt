@@ -1,58 +1,16 @@
 -- Tables of units.
-use Rattle.std.specs.Prelude.{◌≡◌, ℕ, Bool, true, false, cond, not, ◌&&◌, List, [], ◌∷◌, map, IfSome, Some, filter, ◌==◌, refl}
+use Rattle.std.specs.Prelude.{◌≡◌, ℕ, Bool, true, false, cond, not, ◌&&◌, List, [], ◌∷◌, map, Some, filter, ◌==◌, refl}
 use Rattle.std.proofs.Common.{sym, ap, ◌∙◌, arith}
-use Rattle.std.proofs.lemmas.Bool.{and_parts, and_from, or_parts, eqb-true}
+use Rattle.std.proofs.lemmas.Bool.{and_parts, or_parts, eqb-true}
 use Rattle.std.proofs.lemmas.Bool.Decides.{nat_tests}
-use Rattle.std.specs.Option.{option_map, option_to_list}
+use Rattle.std.specs.Option.{option_to_list}
 use Rattle.keys.specs.RandomAddress.{random_number}
 use Rattle.keys.specs.declared.random_address.RandomAddress.{RandomAddress}
 use Rattle.units.specs.State.{is_disabled}
 use Rattle.units.specs.declared.unit.Unit.{Unit}
 use Rattle.dali_line.specs.Controller.{selected_at}
 use Rattle.lines.specs.Twice.{is_among, has_twice}
-use Rattle.dali_line.specs.Table.{unit_number, fits, all_fit, unit_at}
-
--- A change that keeps every key.
-module _ (f : Unit → Unit) (keeps : (u : Unit) → (f u).key ≡ u.key) where
-  pub numbers_kept : (us : List Unit) → map unit_number (map f us) ≡ map unit_number us
-  numbers_kept [] = refl
-  numbers_kept (u ∷ us) = λ i. random_number (keeps u i) ∷ numbers_kept us i
-
-  pub unit_at_map : (us : List Unit) (k : RandomAddress) → unit_at (map f us) k ≡ option_map f (unit_at us k)
-  unit_at_map [] k = refl
-  unit_at_map (u ∷ us) k =
-      let rest = unit_at_map us k in
-      ap (λ key. cond (random_number key == random_number k) (Some (f u)) (unit_at (map f us) k)) (keeps u)
-      ∙ elim (unit_number u == random_number k) as
-      (λ t. cond t (Some (f u)) (unit_at (map f us) k) ≡ option_map f (cond t (Some u) (unit_at us k)))
-      [ true ↦ refl | false ↦ rest ]
-
-pub all_fit_map : (f : Unit → Unit) (live live' : Bool) → ((u : Unit) → fits live u ≡ true → fits live' (f u) ≡ true)
-    → (us : List Unit)
-    → all_fit live us ≡ true
-    → all_fit live' (map f us) ≡ true
-all_fit_map f live live' each [] e = refl
-all_fit_map f live live' each (u ∷ us) e =
-    let (first, rest) = and_parts (fits live u) (all_fit live us) e in
-    and_from (fits live' (f u)) (all_fit live' (map f us)) (each u first) (all_fit_map f live live' each us rest)
-
--- The unit that has a key has its number.
-pub unit_at_number : (us : List Unit) (k : RandomAddress) → IfSome (unit_at us k) (λ u. (unit_number u == random_number k) ≡ true)
-unit_at_number [] k = tt
-unit_at_number (u ∷ us) k =
-    let rest = unit_at_number us k in
-    let here : (t : Bool) → (unit_number u == random_number k) ≡ t → IfSome (cond t (Some u) (unit_at us k)) (λ v. (unit_number v == random_number k) ≡ true) =
-    elim [ true ↦ λ e. e | false ↦ λ e. rest ] in
-    here (unit_number u == random_number k) refl
-
-pub unit_at_fits : (live : Bool) (us : List Unit) (k : RandomAddress) → all_fit live us ≡ true → IfSome (unit_at us k) (λ u. fits live u ≡ true)
-unit_at_fits live [] k e = tt
-unit_at_fits live (u ∷ us) k e =
-    let (first, rest) = and_parts (fits live u) (all_fit live us) e in
-    let later = unit_at_fits live us k rest in
-    elim (unit_number u == random_number k) as
-    (λ t. IfSome (cond t (Some u) (unit_at us k)) (λ v. fits live v ≡ true))
-    [ true ↦ first | false ↦ later ]
+use Rattle.dali_line.specs.Table.{unit_number, all_fit, unit_at}
 
 -- While a line is shut no unit is selected.
 none_selected : (n : ℕ) (us : List Unit) → all_fit false us ≡ true → filter (selected_at n) us ≡ []

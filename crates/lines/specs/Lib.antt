@@ -1,4 +1,5 @@
 pub mod Counted
 pub mod Meaning
 pub mod Rules
+pub mod Tables
 pub mod Twice

@@ -23,14 +23,14 @@ use Rattle.rdm.specs.declared.reply.Reply.TheVariants.{Muted, Info, AddressTaken
 use Rattle.fixtures.specs.Reaction.{with_address}
 use Rattle.fixtures.specs.declared.fixture.Fixture.{Fixture}
 use Rattle.lines.specs.Rules.{hush_answer, footprint_of, query_answer, wide_there, set_answer}
+use Rattle.lines.specs.Tables.{found_keeps}
 use Rattle.rdm_line.specs.Asking.{replies, line_replies}
 use Rattle.rdm_line.specs.Cable.{quiet}
 use Rattle.rdm_line.specs.Heard as hearing
 use Rattle.rdm_line.specs.Heard.{says_yes, yes_heard, footprint_told, footprint_heard}
-use Rattle.rdm_line.specs.Means.{fixture_at, seen, meaning_of}
+use Rattle.rdm_line.specs.Means.{has_key, fixture_at, seen, meaning_of}
 use Rattle.rdm_line.specs.State.{State, fitted}
 use Rattle.rdm_line.specs.Table.{address_fits, is_sound, keys_distinct, all_sound}
-use Rattle.rdm_line.specs.Finding.{found_passes}
 use Rattle.rdm_line.proofs.Questions.{refused_signal}
 use Rattle.rdm_line.proofs.Unicast.{own_answer, answer_heard, one_replies}
 
@@ -101,7 +101,7 @@ module _ (s : State) (apart : keys_distinct (fitted s) ≡ true) (sound : all_so
       by false = refl
       by true =
           ap (footprint_heard (expects parameter.DeviceInfo 0 key)) (one_replies (DeviceInfo key) key refl refl s.mode (fitted s) apart)
-          ∙ found_told (fixture_at (fitted s) key) (found_passes is_sound (fitted s) key sound)
+          ∙ found_told (fixture_at (fitted s) key) (found_keeps (has_key key) is_sound (fitted s) sound)
 
 -- set: a fixture that takes slots takes every address of the family.
 abbrev moved_reply : Bool → Bool → Reply

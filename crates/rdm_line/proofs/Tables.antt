@@ -1,8 +1,8 @@
 -- What a change of every fixture leaves of a table.
-use Rattle.std.proofs.Common.{◌≡◌, ℕ, Bool, true, false, eqb, List, [], ◌∷◌, map, length, is_some, refl, ap, ◌∙◌, ap₂, arith}
+use Rattle.std.proofs.Common.{◌≡◌, ℕ, Bool, true, false, eqb, List, [], ◌∷◌, map, length, is_some, refl, ap, ◌∙◌, arith}
 use Rattle.std.specs.List.{list_all}
 use Rattle.std.proofs.lemmas.List.{length-map}
-use Rattle.std.proofs.lemmas.Bool.{and_parts, and_from, cond_both}
+use Rattle.std.proofs.lemmas.Bool.{cond_both}
 use Rattle.std.proofs.lemmas.Bool.Decides.{nat_tests}
 use Rattle.keys.specs.Address.{in_family}
 use Rattle.keys.specs.Uid.{uid_number}
@@ -12,21 +12,10 @@ use Rattle.fixtures.specs.Reaction.{with_muted, with_address}
 use Rattle.fixtures.specs.declared.fixture.Fixture.{Fixture}
 use Rattle.rdm.specs.Question.{question_refusal}
 use Rattle.rdm.specs.declared.question.Question.{Question}
+use Rattle.lines.specs.Tables.{values_kept, all_kept}
 use Rattle.rdm_line.specs.Asking.{frame_of, asked}
 use Rattle.rdm_line.specs.Sending.{after}
 use Rattle.rdm_line.specs.Table.{number_of, distinct, is_sound, is_muted, keys_distinct, all_sound, muted_unless}
-
--- A test that each passes afterwards, if it passed another before.
-each_kept : (p q : Fixture → Bool) (g : Fixture → Fixture) → ((f : Fixture) → p f ≡ true → q (g f) ≡ true)
-    → (fs : List Fixture) → list_all p fs ≡ true → list_all q (map g fs) ≡ true
-each_kept p q g keeps [] all = refl
-each_kept p q g keeps (f ∷ fs) all =
-    let parts = and_parts (p f) (list_all p fs) all in
-    and_from (q (g f)) (list_all q (map g fs)) (keeps f parts.0) (each_kept p q g keeps fs parts.1)
-
-numbers_kept : (g : Fixture → Fixture) → ((f : Fixture) → (g f).key ≡ f.key) → (fs : List Fixture) → map number_of (map g fs) ≡ map number_of fs
-numbers_kept g same [] = refl
-numbers_kept g same (f ∷ fs) = ap₂ ◌∷◌ (ap uid_number (same f)) (numbers_kept g same fs)
 
 -- Every frame leaves keys as they are, and sound fixtures sound.
 address_sound : (f : Fixture) (a : Address) → eqb f.width 0 ≡ false → in_family 1 512 a ≡ true → is_sound f ≡ true → is_sound (with_address a f) ≡ true
@@ -39,11 +28,11 @@ after_sound frame f sound =
 module _ (frame : List ℕ) (fs : List Fixture) where
   pub distinct_after : keys_distinct fs ≡ true → keys_distinct (map (after frame) fs) ≡ true
   unfolding keys_distinct
-  distinct_after before = ap distinct (numbers_kept (after frame) (λ f. reaction_key f frame) fs) ∙ before
+  distinct_after before = ap distinct (values_kept number_of (after frame) (λ f. ap uid_number (reaction_key f frame)) fs) ∙ before
 
   pub sound_after : all_sound fs ≡ true → all_sound (map (after frame) fs) ≡ true
   unfolding all_sound
-  sound_after before = each_kept is_sound is_sound (after frame) (after_sound frame) fs before
+  sound_after before = all_kept is_sound is_sound (after frame) (after_sound frame) fs before
 
 -- The same of every question.
 module _ (q : Question) (fs : List Fixture) where

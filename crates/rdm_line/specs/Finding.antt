@@ -1,40 +1,26 @@
 -- The fixture that has a key, in a table that changes.
 use Rattle.std.specs.Prelude.{◌≡◌, ℕ, Bool, true, false, cond, List, [], ◌∷◌, map, IfSome, Some, None, Option, ◌==◌, refl}
 use Rattle.std.proofs.Common.{sym, ap, ◌∙◌}
-use Rattle.std.proofs.lemmas.Bool.{eqb-true, eq-eqb, and_parts, or_parts, not-true, cond-false}
+use Rattle.std.proofs.lemmas.Bool.{eqb-true, eq-eqb, or_parts, not-true, cond-false}
 use Rattle.std.specs.Option.{option_map}
-use Rattle.std.specs.List.{AllByRecursion, list_all}
+use Rattle.std.specs.List.{AllByRecursion}
 use Rattle.keys.specs.Uid.{uid_number}
 use Rattle.keys.specs.declared.uid.Uid.{Uid}
 use Rattle.fixtures.specs.declared.fixture.Fixture.{Fixture}
+use Rattle.lines.specs.Tables.{found_passes}
 use Rattle.lines.specs.Twice.{is_among, has_twice}
 use Rattle.rdm_line.specs.Effects.{at_key}
 use Rattle.rdm_line.specs.Means.{has_key, fixture_at}
 use Rattle.rdm_line.specs.Table.{number_of, keys_distinct}
 use Rattle.rdm_line.specs.Keys.{eqb_turned}
 
--- A change that keeps keys changes what is found.
-pub found_changed : (g : Fixture → Fixture) → ((f : Fixture) → (g f).key ≡ f.key) → (fs : List Fixture) (key : Uid)
-    → fixture_at (map g fs) key ≡ option_map g (fixture_at fs key)
-found_changed g same [] key = refl
-found_changed g same (f ∷ fs) key =
-    ap (λ k. cond (uid_number key == uid_number k) (Some (g f)) (fixture_at (map g fs) key)) (same f)
-    ∙ by (has_key key f) (found_changed g same fs key)
-  where
-    by : (here : Bool) → fixture_at (map g fs) key ≡ option_map g (fixture_at fs key)
-        → cond here (Some (g f)) (fixture_at (map g fs) key) ≡ option_map g (cond here (Some f) (fixture_at fs key))
-    by true later = refl
-    by false later = later
-
 -- What is found has the key.
 pub found_key : (fs : List Fixture) (key : Uid) → IfSome (fixture_at fs key) (λ f. uid_number key ≡ number_of f)
-found_key [] key = tt
-found_key (f ∷ fs) key = by (has_key key f) refl (found_key fs key)
+found_key fs key = by (fixture_at fs key) (found_passes (has_key key) fs)
   where
-    by : (here : Bool) → has_key key f ≡ here → IfSome (fixture_at fs key) (λ g. uid_number key ≡ number_of g)
-        → IfSome (cond here (Some f) (fixture_at fs key)) (λ g. uid_number key ≡ number_of g)
-    by true e later = eqb-true (uid_number key) (number_of f) e
-    by false e later = later
+    by : (o : Option Fixture) → IfSome o (λ f. has_key key f ≡ true) → IfSome o (λ f. uid_number key ≡ number_of f)
+    by None e = tt
+    by (Some f) e = eqb-true (uid_number key) (number_of f) e
 
 -- A change at one key is seen there and nowhere else.
 pub found_at_key : (key : Uid) (g : Fixture → Fixture) (fs : List Fixture) (j : Uid)
@@ -57,17 +43,6 @@ found_at_key key g fs j = by (fixture_at fs j) (found_key fs j)
         ap (λ n. Some (cond (uid_number key == n) (g f) f)) (sym h)
         ∙ ap (λ t. Some (cond t (g f) f)) (eqb_turned (uid_number key) (uid_number j))
         ∙ pushed (uid_number j == uid_number key) f
-
--- What each fixture passes is passed by what is found.
-pub found_passes : (test : Fixture → Bool) (fs : List Fixture) (key : Uid) → list_all test fs ≡ true → IfSome (fixture_at fs key) (λ f. test f ≡ true)
-found_passes test [] key all = tt
-found_passes test (f ∷ fs) key all =
-    let parts = and_parts (test f) (list_all test fs) all in
-    by (has_key key f) parts.0 (found_passes test fs key parts.1)
-  where
-    by : (here : Bool) → test f ≡ true → IfSome (fixture_at fs key) (λ g. test g ≡ true) → IfSome (cond here (Some f) (fixture_at fs key)) (λ g. test g ≡ true)
-    by true this later = this
-    by false this later = later
 
 -- Where no key stands twice, each fixture is the one that has its key.
 others_apart : (n : ℕ) (fs : List Fixture) → is_among n (map number_of fs) ≡ false → AllByRecursion (λ f. (n == number_of f) ≡ false) fs

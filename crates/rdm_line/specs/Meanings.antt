@@ -17,11 +17,12 @@ use Rattle.fixtures.specs.declared.fixture.Fixture.{Fixture}
 use Rattle.lines.specs.Meaning.{Fitted, Meaning, Sound, SoundFixture}
 use Rattle.lines.specs.Rules as rules
 use Rattle.lines.specs.Rules.{with_awake, roused, rested, changed_at, hushed, wide_there, addressed}
+use Rattle.lines.specs.Tables.{found_changed, found_keeps}
 use Rattle.rdm_line.specs.Effects.{at_key, moved_to, roused_state, rested_state, hushed_state, addressed_state}
 use Rattle.rdm_line.specs.Means.{has_key, fixture_at, seen, meaning_of}
 use Rattle.rdm_line.specs.State.{State, fitted, with_fitted, with_live}
 use Rattle.rdm_line.specs.Table.{address_fits, is_sound, is_muted, all_sound, muted_unless}
-use Rattle.rdm_line.specs.Finding.{found_changed, found_at_key, found_passes}
+use Rattle.rdm_line.specs.Finding.{found_at_key}
 use Rattle.rdm_line.specs.Keys.{same_test}
 
 pub live_meaning : (s : State) → s.live ≡ (meaning_of s).live
@@ -41,7 +42,7 @@ asleep_already (Some f) muted = ap (λ b. Some (record { awake = not b; width = 
 module _ (s : State) where
   found_after : (g : Fixture → Fixture) → ((f : Fixture) → (g f).key ≡ f.key) → (key : Uid)
       → fixture_at (fitted (with_fitted (map g) s)) key ≡ option_map g (fixture_at (fitted s) key)
-  found_after g same key = found_changed g same (fitted s) key
+  found_after g same key = found_changed (has_key key) g (λ f. ap (λ k. uid_number key == uid_number k) (same f)) (fitted s)
 
   pub rouse_means : meaning_of (roused_state s) ≡ roused (meaning_of s)
   unfolding meaning_of roused_state roused
@@ -60,7 +61,7 @@ module _ (s : State) where
       by : (live : Bool) → s.live ≡ live → (live || list_all is_muted (fitted s)) ≡ true
           → meaning_of (cond live (with_live false (with_fitted (map (with_muted true)) s)) s) ≡ record { live = false; at = λ key. option_map (with_awake false) (option_map seen (fixture_at (fitted s) key)) }
       by true e all = λ i. record { live = false; at = λ key. muted_at key i }
-      by false e all = λ i. record { live = e i; at = λ key. asleep_already (fixture_at (fitted s) key) (found_passes is_muted (fitted s) key all) i }
+      by false e all = λ i. record { live = e i; at = λ key. asleep_already (fixture_at (fitted s) key) (found_keeps (has_key key) is_muted (fitted s) all) i }
 
 -- A change of what is fitted at one key, which takes place exactly if the answer is yes.
 module _ (m n : Meaning Uid) (key : Uid) (change : Fitted → Fitted) (g : Option Fitted → Option Fitted) (live : n.live ≡ m.live) (at : (j : Uid) → n.at j ≡ cond (uid_rank j == uid_rank key) (g (m.at j)) (m.at j)) where
@@ -178,7 +179,7 @@ seen_sound f live sound muted =
 
 pub means_sound : (s : State) → all_sound (fitted s) ≡ true → muted_unless s.live (fitted s) ≡ true → Sound 1 512 (meaning_of s)
 unfolding meaning_of all_sound muted_unless
-means_sound s sound muted key = by (fixture_at (fitted s) key) (found_passes is_sound (fitted s) key sound) (λ shut. found_passes is_muted (fitted s) key (rw shut at muted))
+means_sound s sound muted key = by (fixture_at (fitted s) key) (found_keeps (has_key key) is_sound (fitted s) sound) (λ shut. found_keeps (has_key key) is_muted (fitted s) (rw shut at muted))
   where
     by : (o : Option Fixture) → IfSome o (λ f. is_sound f ≡ true) → (s.live ≡ false → IfSome o (λ f. is_muted f ≡ true)) → IfSome (option_map seen o) (SoundFixture 1 512 s.live)
     by None fine quiet = tt
