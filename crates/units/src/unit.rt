@@ -25,7 +25,7 @@ impl Unit {
     }
 }
 
-// The unit of the lowest key, as it is made.
+// What stands in the places of a vector of fixed capacity that are not in use.
 impl Default for Unit {
     ghost is_default = { λ u. u ≡ fresh_unit u.key };
 
