@@ -2,7 +2,7 @@
 ghost use Rattle.std.specs.Prelude.{◌≡◌, ◌<◌, ◌≤◌, length, take, IfOk};
 ghost use Rattle.outgoing.specs.Outgoing.{outgoing_refusal, outgoing_frame};
 ghost use Rattle.requests.specs.Room.{answered_in};
-ghost use Rattle.requests.specs.Writing.{asked, branch_at, mute_at, un_mute_at, device_info_at, start_address_at, branch_reply_at, search_at, program_at, writing_at};
+ghost use Rattle.requests.specs.Writing.{asked, branch_at, ToKey, mute_at, un_mute_at, device_info_at, start_address_at, OfKey, branch_reply_at, search_at, program_at, writing_at};
 
 use fields::{byte_field, decimal_field, hex_field, is_word, last_decimal};
 use outgoing::Outgoing;
@@ -79,39 +79,34 @@ fn branch(line: &[u8]) -> Option<Writing>
 }
 
 // TN KEY ROOM
-#[tactic(auto, unfolding(crate::specs::Writing::mute_at))]
+fn to_key<F: FnOnce(u8, u64) -> Outgoing>(line: &[u8], frame: F) -> Option<Writing>
+    requires { F.IsAlwaysCallable frame }
+    ensures { ToKey (F.post frame) line.now result }
+{
+    let transaction = byte_field(1, line)?;
+    let key = hex_field(2, line)?;
+    asked(frame(transaction, key), 3, line)
+}
+
 fn mute(line: &[u8]) -> Option<Writing>
     ensures { result ≡ mute_at line.now }
 {
-    let frame = Outgoing::Mute {
-        transaction: byte_field(1, line)?,
-        to: hex_field(2, line)?,
-    };
-    asked(frame, 3, line)
+    to_key(line, |transaction, to| Outgoing::Mute { transaction, to })
 }
 
-// TN KEY ROOM
-#[tactic(auto, unfolding(crate::specs::Writing::un_mute_at))]
 fn un_mute(line: &[u8]) -> Option<Writing>
     ensures { result ≡ un_mute_at line.now }
 {
-    let frame = Outgoing::UnMute {
-        transaction: byte_field(1, line)?,
-        to: hex_field(2, line)?,
-    };
-    asked(frame, 3, line)
+    to_key(line, |transaction, to| Outgoing::UnMute { transaction, to })
 }
 
-// TN KEY ROOM
-#[tactic(auto, unfolding(crate::specs::Writing::device_info_at))]
 fn device_info(line: &[u8]) -> Option<Writing>
     ensures { result ≡ device_info_at line.now }
 {
-    let frame = Outgoing::DeviceInfo {
-        transaction: byte_field(1, line)?,
-        key: hex_field(2, line)?,
-    };
-    asked(frame, 3, line)
+    to_key(
+        line,
+        |transaction, key| Outgoing::DeviceInfo { transaction, key },
+    )
 }
 
 // TN KEY ADDR ROOM
@@ -128,25 +123,24 @@ fn start_address(line: &[u8]) -> Option<Writing>
 }
 
 // KEY ROOM
-#[tactic(auto, unfolding(crate::specs::Writing::branch_reply_at))]
+fn of_key<F: FnOnce(u64) -> Outgoing>(line: &[u8], frame: F) -> Option<Writing>
+    requires { F.IsAlwaysCallable frame }
+    ensures { OfKey (F.post frame) line.now result }
+{
+    let key = hex_field(1, line)?;
+    asked(frame(key), 2, line)
+}
+
 fn branch_reply(line: &[u8]) -> Option<Writing>
     ensures { result ≡ branch_reply_at line.now }
 {
-    let frame = Outgoing::BranchReply {
-        key: hex_field(1, line)?,
-    };
-    asked(frame, 2, line)
+    of_key(line, |key| Outgoing::BranchReply { key })
 }
 
-// KEY ROOM
-#[tactic(auto, unfolding(crate::specs::Writing::search_at))]
 fn search(line: &[u8]) -> Option<Writing>
     ensures { result ≡ search_at line.now }
 {
-    let frame = Outgoing::Search {
-        key: hex_field(1, line)?,
-    };
-    asked(frame, 2, line)
+    of_key(line, |key| Outgoing::Search { key })
 }
 
 // ADDR ROOM
