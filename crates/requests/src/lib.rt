@@ -8,6 +8,7 @@ ghost use Rattle.octets.specs.Writer.{HasRoom, Wrote};
 ghost use Rattle.refusals.specs.declared.Refusal.TheVariants.{BufferTooShort};
 ghost use Rattle.requests.specs.Answer.{writing_text, expected_at, reply_answer, branch_answer, writing_answer, known_answer, answer_text, answer_line, Answered};
 
+use crate::line::Line;
 use crate::writing::Writing;
 use branch::read_branch_reply;
 use fields::{byte_field, field, hex_field, is_word, last_bytes, two_byte_field};
@@ -17,7 +18,10 @@ use refusals::Refusal;
 use shown::{put_key, put_refusal, put_reply};
 use text::hexadecimal::put_hex;
 
+mod line;
 mod writing;
+
+pub use line::LONGEST;
 
 // CLASS PID TN KEY
 fn read_expected(line: &[u8]) -> Option<Expected>
@@ -31,24 +35,22 @@ fn read_expected(line: &[u8]) -> Option<Expected>
     })
 }
 
-fn answer_reply(out: &mut Writer<'_>, line: &[u8]) -> Option<()>
-    requires size { length line.now ≤ 2048 }
-    requires room { HasRoom 512 out.old }
-    ensures { Answered out.old (reply_answer line.now) result out.new }
+fn answer_reply(out: &mut Writer<'_>, line: Line<'_>) -> Option<()>
+    requires { HasRoom 512 out.old }
+    ensures { Answered out.old (reply_answer line.entry.text.now) result out.new }
 {
-    let expected = read_expected(line)?;
+    let expected = read_expected(line.text)?;
     let mut bytes = [0u8; 1024];
-    let size = last_bytes(5, line, &mut bytes)?;
+    let size = last_bytes(5, line.text, &mut bytes)?;
     Some(put_reply(out, read_reply(expected, &bytes[0..size])))
 }
 
-fn answer_branch(out: &mut Writer<'_>, line: &[u8]) -> Option<()>
-    requires size { length line.now ≤ 2048 }
-    requires room { HasRoom 512 out.old }
-    ensures { Answered out.old (branch_answer line.now) result out.new }
+fn answer_branch(out: &mut Writer<'_>, line: Line<'_>) -> Option<()>
+    requires { HasRoom 512 out.old }
+    ensures { Answered out.old (branch_answer line.entry.text.now) result out.new }
 {
     let mut bytes = [0u8; 1024];
-    let size = last_bytes(1, line, &mut bytes)?;
+    let size = last_bytes(1, line.text, &mut bytes)?;
     Some(put_key(out, read_branch_reply(&bytes[0..size])))
 }
 
@@ -73,33 +75,28 @@ fn answer_writing(out: &mut Writer<'_>, word: &[u8], line: &[u8]) -> Option<()>
 }
 
 // The answer to a request that can be read.
-fn answer_known(out: &mut Writer<'_>, line: &[u8]) -> Option<()>
-    requires size { length line.now ≤ 2048 }
-    requires room { HasRoom 512 out.old }
-    ensures { Answered out.old (known_answer line.now) result out.new }
+fn answer_known(out: &mut Writer<'_>, line: Line<'_>) -> Option<()>
+    requires { HasRoom 512 out.old }
+    ensures { Answered out.old (known_answer line.entry.text.now) result out.new }
 {
-    let word = field(0, line)?;
+    let word = field(0, line.text)?;
     if is_word(word, b"reply") {
         answer_reply(out, line)
     } else if is_word(word, b"readbranch") {
         answer_branch(out, line)
     } else {
-        answer_writing(out, word, line)
+        answer_writing(out, word, line.text)
     }
 }
 
-fn put_answer(out: &mut Writer<'_>, line: &[u8])
-    requires size { length line.now ≤ 2048 }
-    requires room { HasRoom 512 out.old }
-    ensures { Wrote out.old (answer_text line.now) out.new }
+fn put_answer(out: &mut Writer<'_>, line: Line<'_>)
+    requires { HasRoom 512 out.old }
+    ensures { Wrote out.old (answer_text line.entry.text.now) out.new }
 {
     if answer_known(out, line).is_none() {
         out.put(b"?");
     }
 }
-
-// The longest line that is read.
-pub const LONGEST: usize = 2048;
 
 // A buffer that suffices for every answer.
 pub const ROOM: usize = 4096;
@@ -113,7 +110,7 @@ fn put_line(out: &mut Writer<'_>, line: &[u8])
     } else {
         out.put(line);
         out.put(b" = ");
-        put_answer(out, line);
+        put_answer(out, Line { text: line });
     }
 }
 
