@@ -31,7 +31,7 @@ impl Bus {
     pub fn was_initialise(&self) -> bool
         ensures { result ≡ was_initialise self.now.before }
     {
-        matches!(self.before, Some(Frame::Initialise))
+        self.before == Some(Frame::Initialise)
     }
 
     // A frame has gone over the bus, and every unit has reacted to it.
