@@ -93,7 +93,7 @@ def repeated_clauses():
     for n, raw in files.items():
         text = without_comments(raw)
         for m in re.finditer(r'requires( \w+)? \{ (.*) \}$', text, re.M):
-            seen[re.sub(r'\b\d+\b', 'N', re.sub(r'\b[a-z_]\w*\.(old|now)\b', 'X', m.group(2)))].append((n, line_of(text, m.start()), m.group(0)))
+            seen[re.sub(r'\b[a-z_]\w*\.(old|now)\b', 'X', m.group(2))].append((n, line_of(text, m.start()), m.group(0)))
     return [place for same in seen.values() if len(same) > 2 for place in same]
 
 

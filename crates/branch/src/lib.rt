@@ -79,6 +79,7 @@ fn has_set_bits(pairs: &[u8]) -> bool
     ensures { result ≡ bits_set pairs.now }
 {
     let (pairs, _) = pairs.as_chunks::<2>();
+    // A loop: the search does not see through `all` where the items are arrays.
     for [p, q] in pairs {
         if !is_pair(*p, *q) {
             return false;
@@ -93,6 +94,7 @@ fn carried_number(pairs: &[u8]) -> u64
     ensures { result ≡ carried pairs.now }
 {
     let (pairs, _) = pairs.as_chunks::<2>();
+    // A loop: in a closure of a fold nothing bounds the number so far.
     let mut number = 0u64;
     for [p, q] in pairs {
         number = number * 256 + u64::from(p & q);

@@ -33,6 +33,7 @@ pub enum Frame {
     Other(OtherFrame),
 }
 
+// `bytes` and `read` are methods, as `to_be_bytes` of a number is one: each says which bytes they are.
 impl Frame {
     pub fn bytes(self) -> [u8; 2]
         ensures { result ≡ frame_bytes self }

@@ -11,7 +11,8 @@ use records::record::Record;
 // The most records that a book has, however much memory it is lent.
 const MOST_PLACES: usize = 65_536;
 
-// The rows are the first `count` records of the memory, never more than there are places.
+// The rows are the first `count` records of the memory, never more than there are places. A slice with a count, since the
+// memory is lent.
 #[derive(Drop)]
 pub struct Book<'a, K> {
     records: &'a mut [Record<K>],

@@ -31,6 +31,8 @@ fn code(res: Result<usize, Refusal>) -> i64
     res.map_or_else(minus, |n| n as i64)
 }
 
+// One function for each name that C calls, and each with numbers and slices alone: C knows no other types.
+
 // The length of the branch question, 38; refusals 1, 2, 4.
 #[unsafe(no_mangle)]
 pub extern "C" fn rdm_write_branch(transaction: u8, lo: u64, hi: u64, buf: &mut [u8]) -> i64

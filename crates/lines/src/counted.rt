@@ -10,7 +10,7 @@ use crate::line::Line;
 use keys::address::Address;
 use keys::range::Range;
 
-// The counts stay at the highest number once they have reached it. They are no part of what the line means.
+// Probes and hushes are counted apart. The counts stay at the highest number once they have reached it. They are no part of what the line means.
 #[derive(Drop)]
 pub struct Counted<L> {
     pub line: L,

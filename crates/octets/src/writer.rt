@@ -18,6 +18,7 @@ impl<'a> Writer<'a> {
         Writer { buf, end: 0 }
     }
 
+    // How much room there has to be is asked of each call, and is no fact of the type: each call takes some of it.
     pub fn put(&mut self, text: &[u8])
         requires { HasRoom (length text.now) self.old }
         ensures { Wrote self.old text.now self.new }

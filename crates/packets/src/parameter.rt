@@ -17,7 +17,7 @@ pub enum Parameter {
 }
 
 impl Parameter {
-    // The command class of a question: discovery, get or set.
+    // The command class of a question: discovery, get or set. A table, since three parameters share one.
     pub fn class(self) -> u8
         ensures { result ≡ class_of self }
     {
@@ -35,7 +35,8 @@ impl Parameter {
         self as u16
     }
 
-    // The parameter that a class and an ID ask about, if it is one of these.
+    // The parameter that a class and an ID ask about, if it is one of these. No `TryFrom`, into which two numbers would go
+    // without their names.
     pub fn from_codes(class: u8, pid: u16) -> Option<Parameter>
         ensures { result ≡ parameter_at class pid }
     {

@@ -48,6 +48,7 @@ pub enum Refusal {
 }
 
 impl Refusal {
+    // A method, which says that it is a number; the numbers stand beside the cases.
     pub fn number(self) -> u8
         ensures { result ≡ number_of self }
     {

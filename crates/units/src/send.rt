@@ -6,7 +6,8 @@ use crate::received::Received;
 use crate::unit::Unit;
 use dali::frame::Frame;
 
-// Sends the bytes of a frame over the bus. Every unit reads them and reacts, and the replies meet.
+// Sends the bytes of a frame over the bus. Every unit reads them and reacts, and the replies meet. Units and bus come apart,
+// so that a caller may keep its units as it likes.
 pub fn send(units: &mut [Unit], bus: &mut Bus, frame: Frame) -> Received
     ensures { Sent units.old bus.old frame result units.new bus.new }
 {

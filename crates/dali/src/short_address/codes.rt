@@ -34,7 +34,7 @@ impl From<ShortAddress> for Address {
 }
 
 impl ShortAddress {
-    // The address in bits 1 to 6, and bit 0 set.
+    // The address in bits 1 to 6, and bit 0 set. No `From`, since the byte is not the number of the address.
     pub fn byte(self) -> u8
         ensures { result ≡ short_byte self }
     {

@@ -13,7 +13,7 @@ use job_law::call::Call;
 use keys::family::Family;
 use lines::line::Line;
 
-// The job that the last open or again began, or what close has left of it.
+// The job that the last open or again began, or what close has left of it. An enum of its own, since a closed job is no error.
 pub enum NewestJob<K> {
     Open(Job<K>),
     Closed(ClosedJob),
