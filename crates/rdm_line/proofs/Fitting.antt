@@ -1,12 +1,16 @@
 -- Fixtures that are fitted one after the other.
-use Rattle.std.proofs.Common.{◌≡◌, ℕ, Bool, true, false, cond, ◌&&◌, eqb, leb, List, [], ◌∷◌, ◌++◌, map, length, Some, None, sym, refl, ap, ◌∙◌, arith}
+use Rattle.std.proofs.Common.{◌≡◌, ℕ, ◌+◌, ◌-◌, Bool, true, false, cond, ◌&&◌, eqb, leb, List, [], ◌∷◌, ◌++◌, map, length, drop, set, replicate, Some, None, sym, refl, ap, ◌∙◌, arith}
+use Rattle.std.proofs.lemmas.List.{drop-set-lt, drop-drop, drop-replicate}
 use Rattle.std.proofs.lemmas.Bool.{and_parts, and_from}
 use Rattle.std.proofs.lemmas.Bool.Decides.{nat_tests}
 use Rattle.std.specs.List.{list_all}
 use Rattle.keys.specs.KeyNumbers.{is_uid_number}
+use Rattle.keys.specs.Uid.{uid_number}
+use Rattle.keys.specs.declared.uid.Uid.{Uid}
 use Rattle.fixtures.specs.Fixture.{first_address}
 use Rattle.fixtures.specs.declared.fixture.Fixture.{Fixture}
-use Rattle.rdm_line.specs.Making.{fits_one, each_fits, width_of, as_delivered, Delivered}
+use Rattle.rdm_line.specs.Keys.{same_from_number}
+use Rattle.rdm_line.specs.Making.{empty_place, EmptyBehind, fits_one, each_fits, width_of, as_delivered, Delivered}
 use Rattle.rdm_line.specs.Table.{number_of, distinct, address_fits, is_sound, keys_distinct, all_sound}
 
 -- These fixtures are fitted, and these keys and widths are left.
@@ -16,6 +20,19 @@ pub record FittedSoFar (keys widths : List ℕ) (fs : List Fixture) (keys_left w
   pub fresh : map as_delivered fs ≡ fs
   pub rest_decides : each_fits keys_left widths_left ≡ each_fits keys widths
   pub as_many : length keys_left ≡ length widths_left
+
+-- All places are empty at first; a fixture that is put into the first of them leaves those behind it empty.
+pub all_empty : (key : Uid) → uid_number key ≡ 0 → EmptyBehind 0 (replicate 128 (record { key = key; width = 0; address = None; muted = false }))
+all_empty key zero =
+    ap (λ k. replicate 128 (record { key = k; width = 0; address = None; muted = false })) (same_from_number key empty_place.key zero)
+
+pub still_empty : (i : ℕ) (places : List Fixture) (f : Fixture) → EmptyBehind i places → EmptyBehind (i + 1) (set places i f)
+still_empty i places f empty =
+    drop-set-lt (i + 1) places i f (omega arith)
+    ∙ sym (drop-drop 1 i places)
+    ∙ ap (drop 1) empty
+    ∙ drop-replicate 1 (128 - i) empty_place
+    ∙ ap (λ n. replicate n empty_place) (omega arith)
 
 -- What is delivered is sound.
 delivered_sound : (f : Fixture) → leb f.width 512 ≡ true → as_delivered f ≡ f → is_sound f ≡ true

@@ -1,6 +1,7 @@
 -- What a line holds after each question.
 use Rattle.std.proofs.Common.{◌≡◌, Bool, true, false, cond, ◌&&◌, ◌||◌, eqb, List, map, Some, None, Option, sym, refl, ap, ◌∙◌, map-id}
 use Rattle.std.proofs.Math.Bool.{and-true, and-false}
+use Rattle.std.proofs.lemmas.List.{take-append-drop}
 use Rattle.std.specs.List.{list_all}
 use Rattle.keys.specs.Address.{in_family}
 use Rattle.keys.specs.declared.address.Address.{Address}
@@ -23,7 +24,7 @@ use Rattle.rdm_line.specs.Means.{has_key}
 use Rattle.rdm_line.specs.State.{State, fitted, with_fitted, with_live}
 use Rattle.rdm_line.specs.Table.{is_muted, muted_unless}
 use Rattle.rdm_line.proofs.Broadcast.{all_changed}
-use Rattle.rdm_line.specs.Maps.{map_by, cond_same}
+use Rattle.rdm_line.specs.Maps.{map_by, first_changed, cond_same}
 use Rattle.rdm_line.proofs.Questions.{refused_table}
 use Rattle.rdm_line.proofs.Tables.{all_muted}
 use Rattle.rdm_line.proofs.Unicast.{one_changed}
@@ -36,7 +37,10 @@ module _ (s : State) where
 
   -- A question that changes no fixture.
   unchanged : (q : Question) → asked q (fitted s) ≡ fitted s → line_asked q s ≡ s
-  unchanged q same = spoken_by q (λ fs. fs) same ∙ cond_same s.live s
+  unchanged q same = spoken_by q (λ fs. fs) same ∙ ap (λ t. cond s.live t s) whole ∙ cond_same s.live s
+    where
+      whole : with_fitted (λ fs. fs) s ≡ s
+      whole = ap (λ fs. record { places = fs; count = s.count; mode = s.mode; live = s.live }) (take-append-drop s.count s.places)
 
   pub rouses : line_asked (UnMute All) (with_live true s) ≡ roused_state s
   unfolding roused_state
@@ -57,7 +61,7 @@ module _ (s : State) where
   rests_muted before = ap (λ t. list_all is_muted (fitted t)) (spoken_by (Mute All) (map (with_muted true)) (all_changed (Mute All) refl refl (fitted s))) ∙ by s.live before
     where
       by : (live : Bool) → (live || list_all is_muted (fitted s)) ≡ true → list_all is_muted (fitted (cond live (with_fitted (map (with_muted true)) s) s)) ≡ true
-      by true before = all_muted (fitted s)
+      by true before = ap (list_all is_muted) (first_changed (with_muted true) s.count s.places) ∙ all_muted (fitted s)
       by false before = before
 
   pub hushes : (key : Uid) → line_asked (Mute (One key)) s ≡ hushed_state key s

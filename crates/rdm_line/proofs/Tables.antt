@@ -1,7 +1,8 @@
 -- What a change of every fixture leaves of a table.
-use Rattle.std.proofs.Common.{◌≡◌, ℕ, Bool, true, false, eqb, List, [], ◌∷◌, map, length, is_some, refl, ap, ◌∙◌, arith}
+use Rattle.std.proofs.Common.{◌≡◌, ℕ, ◌-◌, Bool, true, false, eqb, List, [], ◌∷◌, ◌++◌, map, take, drop, is_some, refl, ap, ◌∙◌, arith}
+use native.Mathlib.Nat.{sub-zero}
 use Rattle.std.specs.List.{list_all}
-use Rattle.std.proofs.lemmas.List.{length-map}
+use Rattle.std.proofs.lemmas.List.{take-append-drop}
 use Rattle.std.proofs.lemmas.Bool.{cond_both}
 use Rattle.std.proofs.lemmas.Bool.Decides.{nat_tests}
 use Rattle.keys.specs.Address.{in_family}
@@ -15,6 +16,7 @@ use Rattle.rdm.specs.declared.question.Question.{Question}
 use Rattle.lines.specs.Tables.{values_kept, all_kept}
 use Rattle.rdm_line.specs.Asking.{frame_of, asked}
 use Rattle.rdm_line.specs.Sending.{after}
+use Rattle.rdm_line.specs.Maps.{first_changed}
 use Rattle.rdm_line.specs.Table.{number_of, distinct, is_sound, is_muted, keys_distinct, all_sound, muted_unless}
 
 -- Every frame leaves keys as they are, and sound fixtures sound.
@@ -40,17 +42,21 @@ module _ (q : Question) (fs : List Fixture) where
   unfolding asked
   asked_is P here there = cond_both (is_some (question_refusal q)) fs (map (after (frame_of q)) fs) P (λ _. here) (λ _. there)
 
-  -- No fixture comes or goes.
-  pub asked_length : length (asked q fs) ≡ length fs
-  asked_length = asked_is (λ gs. length gs ≡ length fs) refl (length-map fs (after (frame_of q)))
+-- The fitted fixtures are the first so many of the table, and those that were asked are put back into their places.
+module _ (q : Question) (fs changed : List Fixture) (n : ℕ) (is : changed ≡ asked q (take (n - 0) fs)) where
+  first_asked : take n (changed ++ drop (n - 0) fs) ≡ asked q (take n fs)
+  first_asked =
+      ap (λ gs. take n (gs ++ drop (n - 0) fs)) is
+      ∙ ap (λ m. take n (asked q (take m fs) ++ drop m fs)) (sub-zero n)
+      ∙ asked_is q (take n fs) (λ gs. take n (gs ++ drop n fs) ≡ gs) (ap (take n) (take-append-drop n fs)) (first_changed (after (frame_of q)) n fs)
 
--- What was asked keeps what a line keeps.
-module _ (q : Question) (fs changed : List Fixture) (is : changed ≡ asked q fs) where
-  pub still_distinct : keys_distinct fs ≡ true → keys_distinct changed ≡ true
-  still_distinct before = ap keys_distinct is ∙ asked_is q fs (λ gs. keys_distinct gs ≡ true) before (distinct_after (frame_of q) fs before)
+  pub still_distinct : keys_distinct (take n fs) ≡ true → keys_distinct (take n (changed ++ drop (n - 0) fs)) ≡ true
+  still_distinct before =
+      ap keys_distinct first_asked ∙ asked_is q (take n fs) (λ gs. keys_distinct gs ≡ true) before (distinct_after (frame_of q) (take n fs) before)
 
-  pub still_sound : all_sound fs ≡ true → all_sound changed ≡ true
-  still_sound before = ap all_sound is ∙ asked_is q fs (λ gs. all_sound gs ≡ true) before (sound_after (frame_of q) fs before)
+  pub still_sound : all_sound (take n fs) ≡ true → all_sound (take n (changed ++ drop (n - 0) fs)) ≡ true
+  still_sound before =
+      ap all_sound first_asked ∙ asked_is q (take n fs) (λ gs. all_sound gs ≡ true) before (sound_after (frame_of q) (take n fs) before)
 
 -- On a live line no fixture has to be muted.
 pub muted_live : (live : Bool) (fs : List Fixture) → live ≡ true → muted_unless live fs ≡ true

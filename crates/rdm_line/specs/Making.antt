@@ -1,6 +1,6 @@
 -- The making of a line: what is refused, and the line that is made.
-use Rattle.std.specs.Prelude.{◌≡◌, ℕ, Bool, true, false, cond, not, ◌&&◌, List, [], ◌∷◌, map, length, Some, None, Ok, Err, Option, Result, ◌==◌, nat_le}
-use Rattle.arrayvec.specs.ArrayVec.{ArrayVec}
+use Rattle.std.specs.Prelude.{◌≡◌, ℕ, ◌-◌, Bool, true, false, cond, not, ◌&&◌, List, [], ◌∷◌, map, length, take, drop, replicate, Some, None, Ok, Err, Option, Result, ◌==◌, nat_le}
+use Rattle.std.proofs.Common.{lit<}
 use Rattle.keys.specs.KeyNumbers.{is_uid_number}
 use Rattle.fixtures.specs.Fixture.{fresh_fixture}
 use Rattle.fixtures.specs.declared.fixture.Fixture.{Fixture}
@@ -10,6 +10,15 @@ use Rattle.rdm_line.specs.Mode.{mode_number}
 use Rattle.rdm_line.specs.State.{State, state_of, fitted}
 use Rattle.rdm_line.specs.Table.{number_of, distinct}
 use Rattle.rdm_line.specs.declared.line.RdmLine.{RdmLine}
+
+-- A place to which no fixture is fitted.
+abbrev pub empty_place : Fixture
+empty_place = record {
+  key = record { manufacturer = 0; device = 0; narrow = lit< tt; key = lit< tt };
+  width = 0;
+  address = None;
+  muted = false;
+}
 
 -- Whether there can be a fixture of this number and width.
 abbrev pub fits_one : ℕ → ℕ → Bool
@@ -38,10 +47,15 @@ pub record Delivered (keys widths : List ℕ) (fs : List Fixture) : Type 0 where
   pub widths_in_order : map width_of fs ≡ widths
   pub fresh : map as_delivered fs ≡ fs
 
+-- Empty places behind so many fixtures.
+abbrev pub EmptyBehind : ℕ → List Fixture → Type 0
+EmptyBehind n places = drop n places ≡ replicate (128 - n) empty_place
+
 -- r is a table of fresh fixtures of these keys and widths, if there can be each.
-abbrev pub NewTable : List ℕ → List ℕ → Option (ArrayVec Fixture) → Type 0
+abbrev pub NewTable : List ℕ → List ℕ → Option (List Fixture) → Type 0
 NewTable keys widths None = each_fits keys widths ≡ false
-NewTable keys widths (Some fixtures) = (each_fits keys widths ≡ true) × Delivered keys widths fixtures.items
+NewTable keys widths (Some places) =
+    (each_fits keys widths ≡ true) × Delivered keys widths (take (length keys) places) × EmptyBehind (length keys) places
 
 -- At most 128 fixtures, a mode up to 3, keys, and widths up to 512.
 unfoldable pub within_limits : List ℕ → List ℕ → ℕ → Bool
@@ -54,9 +68,11 @@ making_refusal keys widths mode =
     (cond (not (within_limits keys widths mode)) (Some AboveLimit)
     (cond (not (distinct keys)) (Some KeyTwice) None))
 
--- The whole of the line that is made: the fixtures, the mode; and it is live.
+-- The whole of the line that is made: the fixtures, empty places behind them, their count, the mode; and it is live.
 pub record FittedOut (keys widths : List ℕ) (mode : ℕ) (s : State) : Type 0 where
   pub fixtures_fresh : Delivered keys widths (fitted s)
+  pub others_empty : EmptyBehind s.count s.places
+  pub all_counted : s.count ≡ length keys
   pub mode_of_number : mode_number s.mode ≡ mode
   pub is_live : s.live ≡ true
 

@@ -24,6 +24,7 @@ use Rattle.rdm_line.specs.State.{State, fitted, with_fitted, with_live}
 use Rattle.rdm_line.specs.Table.{address_fits, is_sound, is_muted, all_sound, muted_unless}
 use Rattle.rdm_line.specs.Finding.{found_at_key}
 use Rattle.rdm_line.specs.Keys.{same_test}
+use Rattle.rdm_line.specs.Maps.{first_changed}
 
 pub live_meaning : (s : State) → s.live ≡ (meaning_of s).live
 unfolding meaning_of
@@ -42,7 +43,9 @@ asleep_already (Some f) muted = ap (λ b. Some (record { awake = not b; width = 
 module _ (s : State) where
   found_after : (g : Fixture → Fixture) → ((f : Fixture) → (g f).key ≡ f.key) → (key : Uid)
       → fixture_at (fitted (with_fitted (map g) s)) key ≡ option_map g (fixture_at (fitted s) key)
-  found_after g same key = found_changed (has_key key) g (λ f. ap (λ k. uid_number key == uid_number k) (same f)) (fitted s)
+  found_after g same key =
+      ap (λ fs. fixture_at fs key) (first_changed g s.count s.places)
+      ∙ found_changed (has_key key) g (λ f. ap (λ k. uid_number key == uid_number k) (same f)) (fitted s)
 
   pub rouse_means : meaning_of (roused_state s) ≡ roused (meaning_of s)
   unfolding meaning_of roused_state roused

@@ -1,22 +1,25 @@
 // An RDM line: the fixtures that are fitted to it, how their replies meet, and whether it is live.
-ghost use Rattle.std.specs.Prelude.{◌≡◌, true};
+ghost use Rattle.std.specs.Prelude.{◌≡◌, ◌≤◌, true, take};
 ghost use Rattle.rdm_line.specs.Table.{keys_distinct, all_sound, muted_unless};
 
 use crate::mode::Mode;
-use arrayvec::ArrayVec;
 use fixtures::fixture::Fixture;
 
 // How many fixtures can be fitted to a line.
 pub const PLACES: usize = 128;
 
+// An array with a count, since a table of empty places in a plain struct is the form that was asked for here (docs/DECISIONS.md).
 #[derive(Drop)]
 pub struct RdmLine {
-    fixtures: ArrayVec<Fixture, PLACES>,
+    // The fitted fixtures are the first so many; the places behind them are empty.
+    fixtures: [Fixture; PLACES],
+    count: usize,
     mode: Mode,
     live: bool,
-    ghost no_key_twice: { keys_distinct fixtures.items ≡ true },
-    ghost fixtures_sound: { all_sound fixtures.items ≡ true },
-    ghost muted_while_shut: { muted_unless live fixtures.items ≡ true },
+    ghost count_in_bounds: { count ≤ 128 },
+    ghost no_key_twice: { keys_distinct (take count fixtures) ≡ true },
+    ghost fixtures_sound: { all_sound (take count fixtures) ≡ true },
+    ghost muted_while_shut: { muted_unless live (take count fixtures) ≡ true },
 }
 
 pub mod as_line;

@@ -19,6 +19,6 @@ impl RdmLine {
         if !self.live {
             return Cable::Quiet;
         }
-        ask(&mut self.fixtures, self.mode, question)
+        ask(&mut self.fixtures[0..self.count], self.mode, question)
     }
 }

@@ -4,7 +4,6 @@ ghost use Rattle.rdm_line.specs.Making.{NewFixture, NewTable, Made};
 
 use crate::line::{PLACES, RdmLine};
 use crate::mode::Mode;
-use arrayvec::ArrayVec;
 use fixtures::fixture::Fixture;
 use keys::uid::Uid;
 use lines::twice::has_twice;
@@ -12,6 +11,17 @@ use refusals::Refusal;
 
 // How many slots there are, and so how many a fixture can take.
 const WIDEST: u32 = 512;
+
+// A place to which no fixture is fitted.
+const EMPTY: Fixture = Fixture {
+    key: Uid {
+        manufacturer: 0,
+        device: 0,
+    },
+    width: 0,
+    address: None,
+    muted: false,
+};
 
 // A fresh fixture of this number and width; none if the number is no key or the width above the limit.
 fn new_fixture(number: u64, width: u32) -> Option<Fixture>
@@ -24,17 +34,18 @@ fn new_fixture(number: u64, width: u32) -> Option<Fixture>
     Some(Fixture::fresh(key, width as u16))
 }
 
-// A fresh fixture for each key and width; none if there cannot be one of them.
-fn fit(keys: &[u64], widths: &[u32]) -> Option<ArrayVec<Fixture, PLACES>>
+// A table with a fresh fixture for each key and width in its first places; none if there cannot be one of them.
+fn fit(keys: &[u64], widths: &[u32]) -> Option<[Fixture; PLACES]>
     requires as_many { length keys.now ≡ length widths.now }
     requires places_for_all { length keys.now ≤ 128 }
     ensures { NewTable keys.now widths.now result }
 {
-    let mut fixtures = ArrayVec::new();
-    for (key, width) in keys.iter().zip(widths) {
-        fixtures.push(new_fixture(*key, *width)?);
+    let mut places = [EMPTY; PLACES];
+    // By index: once a loop over `iter_mut().zip(..)` is done, its proof knows no element of the table.
+    for (i, (key, width)) in keys.iter().zip(widths).enumerate() {
+        places[i] = new_fixture(*key, *width)?;
     }
-    Some(fixtures)
+    Some(places)
 }
 
 impl RdmLine {
@@ -56,6 +67,7 @@ impl RdmLine {
         }
         Ok(RdmLine {
             fixtures,
+            count: keys.len(),
             mode,
             live: true,
         })

@@ -1,4 +1,4 @@
-use Rattle.std.proofs.Common.{◌≡◌, true, cond, not, Some, None, Err, sym, refl, ap, ◌∙◌, subst, rules, arith}
+use Rattle.std.proofs.Common.{◌≡◌, true, cond, not, length, take, Some, None, Err, sym, refl, ap, ◌∙◌, subst, rules, arith}
 use Rattle.refusals.specs.declared.Refusal.TheVariants.{AboveLimit, KeyTwice}
 use Rattle.rdm_line.specs.Making.{NewTable}
 use Rattle.rdm_line.proofs.Fitting.{delivered_apart, delivered_all_sound}
@@ -43,10 +43,12 @@ invariant_of-result c =
     let fixtures = c.in_ok-fixtures.fixtures in
     let is : c.fit.result ≡ Some fixtures = search rules in
     let table : NewTable keys widths (Some fixtures) = subst (NewTable keys widths) is c.fit.ensures in
+    let fitted = take (length keys) fixtures in
     record {
-      no_key_twice = delivered_apart keys widths fixtures.items table.1 (ap not (sym c.has_twice.ensures ∙ c.if-has_twice.false));
-      fixtures_sound = delivered_all_sound keys widths fixtures.items table.1 c.if-keys-widths.false table.0;
-      muted_while_shut = muted_live true fixtures.items refl;
+      count_in_bounds = c.if-keys-gt-PLACES.false;
+      no_key_twice = delivered_apart keys widths fitted table.1 (ap not (sym c.has_twice.ensures ∙ c.if-has_twice.false));
+      fixtures_sound = delivered_all_sound keys widths fitted table.1 c.if-keys-widths.false table.0;
+      muted_while_shut = muted_live true fitted refl;
     }
 
 pub returns : goal.returns
@@ -57,5 +59,11 @@ returns c =
     let table : NewTable keys widths (Some c.in_ok-fixtures.fixtures) = subst (NewTable keys widths) is c.fit.ensures in (
       only_twice keys widths c.args.mode c.if-keys-widths.false (omega (arith, mode_in_bounds c.in_ok-mode.mode, c.in_ok-mode.ensures)) c.if-keys-gt-PLACES.false table.0
           ∙ ap (λ t. cond (not (not t)) (Some KeyTwice) None) (sym c.has_twice.ensures ∙ c.if-has_twice.false),
-      record { fixtures_fresh = table.1; mode_of_number = c.in_ok-mode.ensures; is_live = refl },
+      record {
+        fixtures_fresh = table.1;
+        others_empty = table.2;
+        all_counted = refl;
+        mode_of_number = c.in_ok-mode.ensures;
+        is_live = refl;
+      },
     )

@@ -12,6 +12,7 @@ invariant_of-self c =
     let asked = c.ask.new.self in
     let muted = ap (λ s. muted_unless false (fitted s)) c.ask.ensures.state ∙ rests_muted (state_of line) line.muted_while_shut in
     record {
+      count_in_bounds = asked.count_in_bounds;
       no_key_twice = asked.no_key_twice;
       fixtures_sound = asked.fixtures_sound;
       muted_while_shut = muted;

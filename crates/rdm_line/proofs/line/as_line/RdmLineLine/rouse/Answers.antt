@@ -1,4 +1,4 @@
-use Rattle.std.proofs.Common.{true, refl, ap, ◌∙◌}
+use Rattle.std.proofs.Common.{true, take, refl, ap, ◌∙◌}
 use Rattle.rdm_line.specs.Means.{meaning_of}
 use Rattle.rdm_line.specs.State.{state_of}
 use Rattle.rdm_line.specs.Meanings.{rouse_means}
@@ -10,9 +10,10 @@ pub invariant_of-self : goal.invariant_of-self
 invariant_of-self c =
     let line = c.args.self.now in
     record {
+      count_in_bounds = line.count_in_bounds;
       no_key_twice = line.no_key_twice;
       fixtures_sound = line.fixtures_sound;
-      muted_while_shut = muted_live true line.fixtures.items refl;
+      muted_while_shut = muted_live true (take line.count line.fixtures) refl;
     }
 
 pub returns : goal.returns
