@@ -42,7 +42,7 @@ impl Cable {
         ensures { result ≡ yes_heard expected (signal_on self.now) }
     {
         self.reply(expected)
-            .is_some_and(|reply| matches!(reply.response, Response::Ack))
+            .is_some_and(|reply| reply.response == Response::Ack)
     }
 
     // The width and the address that a fixture told, if the reply came from whom it was expected.

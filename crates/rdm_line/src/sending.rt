@@ -19,7 +19,8 @@ fn speak_to(fixture: &mut Fixture, frame: &[u8]) -> Cable
     )
 }
 
-// Lends a frame to every fixture of a table, and answers what is then on the cable.
+// Lends a frame to every fixture of a table, and answers what is then on the cable. Fixtures and mode come apart, so that a
+// caller may keep its table as it likes.
 pub fn send(fixtures: &mut [Fixture], frame: &[u8], mode: Mode) -> Cable
     ensures table { fixtures.new ≡ map (after frame.now) fixtures.old }
     ensures signal { signal_on result ≡ replies_to mode frame.now fixtures.old }
