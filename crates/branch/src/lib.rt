@@ -58,6 +58,7 @@ fn strip_start<'a>(start: &[u8], bytes: &'a [u8]) -> Option<&'a [u8]>
 fn strip_lead<'a>(lead: &[u8], bytes: &'a [u8]) -> Option<&'a [u8]>
     ensures { option_map (λ x. x.now) result ≡ behind_lead lead.now bytes.now }
 {
+    // A loop: of `find_map` over how many are lost the proof did not close.
     let mut left = lead;
     while let Some((_, fewer)) = left.split_first() {
         if let Some(rest) = strip_start(left, bytes) {
@@ -79,7 +80,7 @@ fn has_set_bits(pairs: &[u8]) -> bool
     ensures { result ≡ bits_set pairs.now }
 {
     let (pairs, _) = pairs.as_chunks::<2>();
-    // A loop: the search does not see through `all` where the items are arrays.
+    // A loop: the proof search does not see through `all` where the items are arrays.
     for [p, q] in pairs {
         if !is_pair(*p, *q) {
             return false;

@@ -2,6 +2,7 @@
 use crate::walk::Walk;
 use walk_law::phase::Phase;
 
+// Its line and its book are given to each call, as the rule of the project is: their owner keeps both, and may look at them.
 pub struct Job<K> {
     walk: Walk<K>,
 }

@@ -43,6 +43,7 @@ fn sized_field(n: usize, digits: usize, line: &[u8]) -> Option<u64>
 pub fn byte_field(n: usize, line: &[u8]) -> Option<u8>
     ensures { result ≡ byte_field n line.now }
 {
+    // No `map`, here and below: in its closure nothing bounds the number.
     Some(sized_field(n, 2, line)? as u8)
 }
 
@@ -85,7 +86,7 @@ fn read_bytes(text: &[u8], buf: &mut [u8]) -> Option<usize>
     ensures answer { result ≡ bytes_read (bytes_in text.now) buf.old }
     ensures after { buf.new ≡ bytes_left (bytes_in text.now) buf.old }
 {
-    // Kept two tests: of a match on byte strings a proof learns the lengths, and not the word, of the arms that follow.
+    // Two tests: of a match on byte strings a proof learns the lengths alone.
     if is_word(text, b"-") {
         return Some(0);
     }

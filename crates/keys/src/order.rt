@@ -9,10 +9,7 @@ fn at_rank<K: Family>(n: u64) -> K
     requires { n ≤ K.top }
     ensures { K.rank result ≡ n }
 {
-    match K::from_rank(n) {
-        Some(key) => key,
-        None => unreachable(),
-    }
+    K::from_rank(n).unwrap()
 }
 
 pub fn lowest<K: Family>() -> K

@@ -5,7 +5,7 @@ ghost use Rattle.octets.specs.Bytes.{checksum_of};
 pub fn checksum(bytes: &[u8]) -> u16
     ensures { result ≡ checksum_of bytes.now }
 {
-    // Kept a loop, since one over the bytes of a slice is the form that was asked for here (docs/DECISIONS.md).
+    // A loop by a rule of the project: the sum of a frame is a loop over the bytes of a slice.
     let mut sum = 0u16;
     for b in bytes {
         sum = sum.wrapping_add(u16::from(*b));

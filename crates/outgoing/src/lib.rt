@@ -90,7 +90,7 @@ impl Outgoing {
                 slot,
             } => {
                 let key = Uid::from_number(key).ok_or(Refusal::NotAKey)?;
-                let slot = u16::try_from(slot).or(Err(Refusal::AddressOutside))?;
+                let slot = u16::try_from(slot).map_err(|_| Refusal::AddressOutside)?;
                 Question::StartAddress(key, Address { slot }).write(transaction, buf)
             }
             Outgoing::BranchReply { key } => {
@@ -102,7 +102,7 @@ impl Outgoing {
                 write_search(key, buf)
             }
             Outgoing::Program { slot } => {
-                let slot = u16::try_from(slot).or(Err(Refusal::AddressOutside))?;
+                let slot = u16::try_from(slot).map_err(|_| Refusal::AddressOutside)?;
                 let address = ShortAddress::try_from(Address { slot })?;
                 Frame::Program(address).write(buf)
             }

@@ -23,6 +23,7 @@ fn has_size(bytes: &[u8]) -> bool
         && bytes[2] as usize == 24 + bytes[23] as usize
 }
 
+// Three steps of one reading: a type for bytes of the right size would last for two calls.
 fn has_sum(bytes: &[u8]) -> bool
     requires { 26 ≤ length bytes.now }
     ensures { result ≡ summed bytes.now }

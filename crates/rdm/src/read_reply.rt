@@ -48,7 +48,7 @@ impl Expected {
     }
 }
 
-// The response of a type, if it has the data that such a response has.
+// The response of a type, if it has the data that such a response has: type and size tell it together.
 fn read_response(kind: u8, size: usize) -> Option<Response>
     ensures { result ≡ response_at kind size }
 {

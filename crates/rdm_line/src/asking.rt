@@ -22,6 +22,7 @@ pub fn ask(fixtures: &mut [Fixture], mode: Mode, question: Question) -> Cable
     ensures signal { signal_on result ≡ replies mode question fixtures.old }
 {
     let mut buf = [0; LONGEST_QUESTION];
+    // A match: one arm changes the fixtures, and a proof hardly learns what a closure has changed.
     match question.write(TRANSACTION, &mut buf) {
         Ok(len) => send(fixtures, &buf[0..len], mode),
         Err(_) => Cable::Quiet,

@@ -8,7 +8,7 @@ use fixtures::fixture::Fixture;
 // How many fixtures can be fitted to a line.
 pub const PLACES: usize = 128;
 
-// An array with a count, since a table of empty places in a plain struct is the form that was asked for here (docs/DECISIONS.md).
+// An array with a count by a rule of the project: the table is made of empty places, in a plain struct.
 #[derive(Drop)]
 pub struct RdmLine {
     // The fitted fixtures are the first so many; the places behind them are empty.

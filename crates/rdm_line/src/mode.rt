@@ -15,7 +15,7 @@ pub enum Mode {
     Lowest,
 }
 
-// The mode of a number; none above 3.
+// The mode of a number; refuses a number above 3 (11).
 impl TryFrom<u32> for Mode {
     type Error = Refusal;
 

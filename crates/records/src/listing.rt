@@ -6,8 +6,8 @@ ghost use Rattle.records.specs.Rows.{row_ranks, place_of, with_key};
 use crate::record::Record;
 use keys::family::Family;
 
-// These two go through the rows from the first on. To halve them would ask that they ascend, which holds of a book's and need
-// not of the rows that they are called with.
+// These two go through the rows from the first on. A binary search would ask that the rows ascend, as those of a book do, and
+// other callers' need not.
 
 // Whether a key is in one of the rows.
 pub fn is_listed<K: Family>(rows: &[Record<K>], key: K) -> bool
@@ -26,7 +26,7 @@ fn place<K: Family>(rows: &[Record<K>], key: K) -> usize
 
 // Lists a key among so many rows at the beginning of some memory; those behind it move up by one. Answers whether there was
 // a place for one more; otherwise nothing is written.
-// Kept a count beside the memory: it need not be within it, and the answer tells.
+// The count is a number of its own, since it need not be within the memory: the answer tells.
 pub fn list<K: Family>(memory: &mut [Record<K>], count: usize, key: K) -> bool
     ensures answer { result ≡ nat_lt count (length memory.old) }
     ensures after { memory.new ≡ (if nat_lt count (length memory.old) then with_key K.Family.rank key (take count memory.old) ++ drop (suc count) memory.old else memory.old) }

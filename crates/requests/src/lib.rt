@@ -42,7 +42,8 @@ fn answer_reply(out: &mut Writer<'_>, line: Line<'_>) -> Option<()>
     let expected = read_expected(line.text)?;
     let mut bytes = [0u8; 1024];
     let size = last_bytes(5, line.text, &mut bytes)?;
-    Some(put_reply(out, read_reply(expected, &bytes[0..size])))
+    put_reply(out, read_reply(expected, &bytes[..size]));
+    Some(())
 }
 
 fn answer_branch(out: &mut Writer<'_>, line: Line<'_>) -> Option<()>
@@ -51,7 +52,8 @@ fn answer_branch(out: &mut Writer<'_>, line: Line<'_>) -> Option<()>
 {
     let mut bytes = [0u8; 1024];
     let size = last_bytes(1, line.text, &mut bytes)?;
-    Some(put_key(out, read_branch_reply(&bytes[0..size])))
+    put_key(out, read_branch_reply(&bytes[..size]));
+    Some(())
 }
 
 // The frame that was written, or its refusal.
@@ -71,7 +73,8 @@ fn answer_writing(out: &mut Writer<'_>, word: &[u8], line: &[u8]) -> Option<()>
     ensures { Answered out.old (writing_answer word.now line.now) result out.new }
 {
     let writing = Writing::read(word, line)?;
-    Some(put_writing(out, writing))
+    put_writing(out, writing);
+    Some(())
 }
 
 // The answer to a request that can be read.
@@ -80,6 +83,7 @@ fn answer_known(out: &mut Writer<'_>, line: Line<'_>) -> Option<()>
     ensures { Answered out.old (known_answer line.entry.text.now) result out.new }
 {
     let word = field(0, line.text)?;
+    // Tests, since of a match on byte strings a proof learns the lengths alone.
     if is_word(word, b"reply") {
         answer_reply(out, line)
     } else if is_word(word, b"readbranch") {

@@ -38,7 +38,7 @@ pub fn put_bytes(out: &mut Writer<'_>, bytes: &[u8])
     }
 }
 
-// The key, or the refusal.
+// The key, or the refusal. A match here and below, since each puts its value by a function of its own.
 pub fn put_key(out: &mut Writer<'_>, key: Result<Uid, Refusal>)
     requires { HasRoom 12 out.old }
     ensures { Wrote out.old (key_text (key_number key)) out.new }

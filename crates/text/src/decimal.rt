@@ -22,6 +22,7 @@ pub fn read_decimal(text: &[u8]) -> Option<u32>
     if !has_shape(text) {
         return None;
     }
+    // No `map`: in its closure nothing bounds the number.
     Some(read_digits(10, text)? as u32)
 }
 

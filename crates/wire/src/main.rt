@@ -22,8 +22,8 @@ fn read_line<R: BufRead>(input: &mut R, line: &mut Vec<u8>) -> io::Result<bool> 
 // Prints a line and its answer.
 fn print_answer<W: Write>(output: &mut W, line: &[u8], out: &mut [u8]) -> io::Result<()> {
     if let Ok(size) = answer(line, out) {
-        if size <= out.len() {
-            output.write_all(&out[0..size])?;
+        if let Some(text) = out.get(..size) {
+            output.write_all(text)?;
             output.write_all(b"\n")?;
         }
     }

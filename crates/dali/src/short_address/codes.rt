@@ -7,7 +7,7 @@ use keys::address::{Address, is_in_family};
 use keys::random_address::RandomAddress;
 use refusals::Refusal;
 
-// The short address of a slot; 3 outside the family.
+// The short address of a slot. Refuses one outside the family (3).
 impl TryFrom<Address> for ShortAddress {
     type Error = Refusal;
 

@@ -80,7 +80,7 @@ impl Line for DaliLine {
         ensures after { line_meaning self.new ≡ addressed random_rank 0 64 (line_meaning self.old) key address }
         ensures table_and_bus_after { LeftBySet key address self.old self.new }
     {
-        // A match: one arm changes the line, and what a closure has changed is not known after it.
+        // A match: one arm changes the line, and a proof hardly learns what a closure has changed.
         match ShortAddress::try_from(address) {
             Ok(short) => self.wire.program(key, short),
             Err(_) => false,

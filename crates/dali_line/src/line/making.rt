@@ -34,7 +34,7 @@ fn fit(numbers: &[u64]) -> Option<ArrayVec<Unit, PLACES>>
 impl DaliLine {
     // A line of units that have keys with these numbers, in their order. Every unit takes one address, and there is one
     // mode, 0. Refuses unequal lists (10); then more than 64 units, another mode, another width or a number that is no key
-    // (11); then a key that comes twice (12). Two lists, since it has a number for lists that are unequal.
+    // (11); then a key that comes twice (12). Two lists, since unequal ones have a refusal of their own.
     pub fn new(keys: &[u64], widths: &[u32], mode: u32) -> Result<DaliLine, Refusal>
         ensures answer { Made keys.now widths.now mode result }
         ensures means { IfOk result (λ line. line_meaning line ≡ fresh_meaning keys.now) }

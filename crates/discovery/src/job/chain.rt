@@ -19,7 +19,7 @@ pub enum NewestJob<K> {
     Closed(ClosedJob),
 }
 
-// Makes a call where there is a job.
+// Makes a call where there is a job. Calls are values, since chains of them are what the promise speaks of.
 fn call_job<L: Line>(
     line: &mut L,
     book: &mut Book<'_, L::Key>,

@@ -18,10 +18,10 @@ use walk_law::phase::Phase;
 fn address_suits<K: Family>(width: u16, address: Option<Address>) -> bool
     ensures { result ≡ address_suits K.Family.first K.Family.count width address }
 {
-    match address {
-        Some(address) => width != 0 && is_in_family::<K>(address),
-        None => width == 0,
-    }
+    address.map_or(
+        width == 0,
+        |address| width != 0 && is_in_family::<K>(address),
+    )
 }
 
 // Whether a row can be written to its fixture: it answers with the width that the row has, and the address suits that.
@@ -70,6 +70,7 @@ fn check<L: Line>(line: &mut L, book: &Book<'_, L::Key>, phase: Phase) -> Result
     ensures same { L.Line.means line.new ≡ L.Line.means line.old }
     ensures value { result ≡ refused_or_done (rows_refusal phase L.Key.Family.first L.Key.Family.count (L.Line.means line.old) (rows_of book.now)) }
 {
+    // A match by a rule of the project: a phase and a call decide together.
     match phase {
         Phase::Laid => {
             if all_stand(line, book.rows()) {

@@ -45,6 +45,7 @@ fn check<L: Line>(line: &mut L, book: &Book<'_, L::Key>, phase: Phase) -> Result
     ensures same { L.Line.means line.new ≡ L.Line.means line.old }
     ensures value { result ≡ refused_or_done (widths_refusal phase L.Key.Family.count (L.Line.means line.old) (rows_of book.now)) }
 {
+    // A match by a rule of the project: a phase and a call decide together.
     match phase {
         Phase::Walked => check_widths(line, book),
         Phase::Walking | Phase::Laid | Phase::Set | Phase::Full | Phase::Contradicted => {

@@ -77,10 +77,10 @@ pub(crate) fn after_probe<K: Family>(
 pub(crate) fn after_no<K: Family>(range: Range<K>) -> Course<K>
     ensures { (listed : List ℕ) → LeadsAs law.after_no (range_ranks K.Family.rank range) listed listed (course_ranks K.Family.rank result) }
 {
-    match split(range) {
-        None => Course::End(Phase::Contradicted),
-        Some((lower, upper)) => Course::Split(lower, upper),
-    }
+    split(range).map_or(
+        Course::End(Phase::Contradicted),
+        |(lower, upper)| Course::Split(lower, upper),
+    )
 }
 
 // The key of the range that was hushed replied: it is listed.

@@ -80,6 +80,7 @@ impl<K: Family> Walk<K> {
     fn check(&self, answer: Answer<K>) -> Result<(), Refusal>
         ensures { result ≡ refused_or_done (refusal_in self.now.phase self.now.questions (option_map K.Family.rank self.now.hushing) (answer_ranks K.Family.rank answer)) }
     {
+        // A match by a rule of the project: the phase, the pending question and the answer decide together.
         match (self.phase, self.hushing, answer) {
             (Phase::Walking, _, _) if self.questions >= MOST_QUESTIONS => {
                 Err(Refusal::QuestionsSpent)

@@ -32,7 +32,7 @@ impl Family for RandomAddress {
 
     ghost addresses_in_bounds = { random_addresses_in_bounds };
 
-    // The rank is the number on the wire here. It need not be so in every family, so each is told for itself.
+    // Rank and number on the wire are told apart by a rule of the project, though they are the same here.
     fn to_rank(self) -> u64 {
         self.value as u64
     }

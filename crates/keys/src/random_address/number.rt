@@ -5,7 +5,8 @@ ghost use Rattle.keys.specs.RandomAddress.{random_number, random_rank, RandomNum
 use crate::random_address::RandomAddress;
 
 impl RandomAddress {
-    // A method and no `From`: a key has two numbers, this one and its rank, and `u64::from(key)` would not say which.
+    // Methods and no `From` and `TryFrom`: a key has two numbers, this one and its rank, and `u64::from(key)` would not say
+    // which.
     pub fn number(self) -> u64
         ensures value { result ≡ random_number self }
         ensures ordered_as_keys { (other : RandomAddress) → nat_lt (random_number self) (random_number other) ≡ nat_lt (random_rank self) (random_rank other) }

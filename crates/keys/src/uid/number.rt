@@ -8,8 +8,8 @@ use crate::uid::Uid;
 pub const BROADCAST: u64 = 0xFFFF_FFFF_FFFF;
 
 impl Uid {
-    // A method and no `From`: a key has two numbers, this one and its rank, and `u64::from(key)` would not say which.
-    // Manufacturer first.
+    // The manufacturer stands first. Methods and no `From` and `TryFrom`: a key has two numbers, this one and its rank, and
+    // `u64::from(key)` would not say which.
     pub fn number(self) -> u64
         ensures value { result ≡ uid_number self }
         ensures ordered_as_keys { (other : Uid) → nat_lt (uid_number self) (uid_number other) ≡ nat_lt (uid_rank self) (uid_rank other) }

@@ -50,8 +50,8 @@ fn fit(keys: &[u64], widths: &[u32]) -> Option<[Fixture; PLACES]>
 
 impl RdmLine {
     // A live line with a fresh fixture for each key, in this order. Refuses unequal lists (10); then more than 128 fixtures,
-    // a mode above 3, a number that is no key or a width above 512 (11); then a key twice (12). Two lists, since it has a
-    // number for lists that are unequal.
+    // a mode above 3, a number that is no key or a width above 512 (11); then a key twice (12). Two lists, since unequal
+    // ones have a refusal of their own.
     pub fn new(keys: &[u64], widths: &[u32], mode: u32) -> Result<RdmLine, Refusal>
         ensures { Made keys.now widths.now mode result }
     {
