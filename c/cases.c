@@ -170,6 +170,15 @@ static unsigned count_wrong_fixed_frames(void)
     return wrong;
 }
 
+/* Where the last ` = ` is: what cannot be read as a request may hold others. */
+static char *find_sign(char *line)
+{
+    char *found = NULL;
+    for (char *at = strstr(line, " = "); at != NULL; at = strstr(at + 1, " = "))
+        found = at;
+    return found;
+}
+
 int main(void)
 {
     static char line[LINE_SIZE];
@@ -180,12 +189,12 @@ int main(void)
     unsigned skipped = 0;
     while (fgets(line, sizeof line, stdin) != NULL) {
         line[strcspn(line, "\n")] = 0;
-        char *sign = strstr(line, "= ");
-        if (sign == NULL || strcmp(sign, "= ?") == 0) {
+        char *sign = find_sign(line);
+        if (sign == NULL || strcmp(sign, " = ?") == 0) {
             skipped++;
             continue;
         }
-        const char *expected = sign + 2;
+        const char *expected = sign + 3;
         memcpy(request_text, line, (size_t)(sign - line));
         request_text[sign - line] = 0;
         struct request request = split(request_text);

@@ -93,7 +93,7 @@ fn halves_of_all_keys(rt: HostRuntime) -> Result<(), Fail> {
         lo: LOWEST,
         hi: HIGHEST,
     };
-    let (lower, upper) = split(all).ok_or(Fail::new("two halves"))?;
+    let (lower, upper) = split(all).ok_or_else(|| Fail::new("two halves"))?;
     assert_eq!(rt; lower.hi.number(), 0x7FFF_FFFF_FFFF);
     assert_eq!(rt; upper.lo.number(), 0x8000_0000_0000);
     let one = Range {
@@ -106,7 +106,7 @@ fn halves_of_all_keys(rt: HostRuntime) -> Result<(), Fail> {
 
 #[test]
 fn search_address_in_three_frames(rt: HostRuntime) -> Result<(), Fail> {
-    let key = RandomAddress::from_number(0x12_3456).ok_or(Fail::new("a random address"))?;
+    let key = RandomAddress::from_number(0x12_3456).ok_or_else(|| Fail::new("a random address"))?;
     let mut buf = [0u8; 6];
     assert_eq!(rt; write_search(key, &mut buf), Ok(6));
     assert!(rt; buf == [0xB1, 0x12, 0xB3, 0x34, 0xB5, 0x56]);

@@ -29,6 +29,7 @@ pub enum Destination {
 }
 
 impl Destination {
+    // Named as the number of a key is.
     fn number(self) -> u64
         ensures { result ≡ destination_number self }
     {

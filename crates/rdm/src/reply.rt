@@ -48,6 +48,7 @@ pub enum Reply {
 }
 
 impl Response {
+    // A method, which says that it is the code in a packet; the codes stand beside the cases.
     pub fn code(self) -> u8
         ensures { result ≡ response_code self }
     {
@@ -66,6 +67,7 @@ impl Reason {
 // FFFF stands for no start address.
 pub(crate) const NO_ADDRESS: u16 = 0xFFFF;
 
+// `to_bytes` as a number has it: it says which bytes they are.
 impl DeviceInfo {
     // What is told reads back as itself, unless it is the slot that stands for none.
     pub fn to_bytes(self) -> [u8; 19]

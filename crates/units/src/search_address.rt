@@ -10,7 +10,7 @@ pub struct SearchAddress {
 }
 
 impl SearchAddress {
-    // The 24-bit number, to be compared with the numbers of keys.
+    // The 24-bit number, to be compared with the numbers of keys, and named as theirs are.
     pub fn number(self) -> u64
         ensures { result ≡ search_number self }
     {

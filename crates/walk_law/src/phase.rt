@@ -22,7 +22,7 @@ pub enum Phase {
 }
 
 impl Phase {
-    // The number by which a sheet tells it.
+    // The number by which a sheet of what was found tells it. A method, which says so; the numbers stand beside the cases.
     pub fn number(self) -> u8
         ensures { result ≡ phase_number self }
     {
