@@ -53,6 +53,9 @@ at_changed line units f keeps e k =
     ∙ mapped_mapped fixture_of f (unit_at (fitted_units line) k)
 
 module _ (line : DaliLine) (units : List Unit) where
+  pub means_same : units ≡ fitted_units line → meaning_with line.live units ≡ line_meaning line
+  means_same e = ap (meaning_with line.live) e
+
   pub means_roused : units ≡ changed (with_state Enabled) line → meaning_with true units ≡ roused (line_meaning line)
   unfolding roused
   means_roused e =

@@ -89,7 +89,8 @@ impl Question {
         }
     }
 
-    // What is wrong with the question itself, whatever buffer it is to go into.
+    // What is wrong with the question itself, whatever buffer it is to go into. The ends are compared by the numbers that the
+    // packet has: keys themselves compare by rank.
     fn check(self) -> Result<(), Refusal>
         ensures { result_err result ≡ question_refusal self }
     {
