@@ -65,6 +65,8 @@ fn asked(frame: Outgoing, place: usize, line: &[u8]) -> Option<Writing>
     })
 }
 
+// One function for each word. Those of one shape are told apart by the frame alone, which each makes.
+
 // TN LO HI ROOM
 #[tactic(auto, unfolding(crate::specs::Writing::branch_at))]
 fn branch(line: &[u8]) -> Option<Writing>

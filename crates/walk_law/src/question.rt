@@ -1,4 +1,4 @@
-// What a walk asks, and what it hears.
+// What a walk asks, and what it hears. Each is of one kind or the other, with a value in both: enums of their own.
 use keys::range::Range;
 use lines::answers::ProbeAnswer;
 

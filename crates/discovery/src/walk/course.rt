@@ -48,6 +48,7 @@ fn is_within<K: Family>(key: K, range: Range<K>) -> bool
 fn hint<K: Family>(book: &Book<'_, K>, range: Range<K>, reply: ProbeAnswer<K>) -> Option<K>
     ensures { option_map K.Family.rank result ≡ hinted (range_ranks K.Family.rank range) (row_ranks K.Family.rank (rows_of book.now)) (probe_ranks K.Family.rank reply) }
 {
+    // An enum of three cases, and no Option that `?` takes.
     let ProbeAnswer::Clear(key) = reply else {
         return None;
     };
