@@ -54,7 +54,7 @@ pub fn two_byte_field(n: usize, line: &[u8]) -> Option<u16>
     Some(sized_field(n, 4, line)? as u16)
 }
 
-// A field that has none behind it. Its number is a plain one, since callers name fields by literals.
+// A field that has none behind it. Its number, here and below, is a plain one, since callers name fields by literals.
 fn last_field(n: usize, line: &[u8]) -> Option<&[u8]>
     requires { n < 16 }
     ensures { option_map (λ x. x.now) result ≡ last_field n line.now }

@@ -4,7 +4,7 @@ ghost use Rattle.job_law.specs.Chain.{is_open};
 
 use walk_law::phase::Phase;
 
-#[derive(Clone, Copy)]
+#[derive(Clone, Copy, PartialEq, Eq)]
 pub enum Call {
     // Begins a new search, in the place of the job before it.
     Open,
@@ -33,6 +33,6 @@ impl Call {
     pub fn is_open(self) -> bool
         ensures { result ≡ is_open self }
     {
-        matches!(self, Call::Open)
+        self == Call::Open
     }
 }

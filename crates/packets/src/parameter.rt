@@ -28,7 +28,7 @@ impl Parameter {
         }
     }
 
-    // The parameter ID.
+    // The parameter ID. A method, which says which number it is; the numbers stand beside the cases.
     pub fn pid(self) -> u16
         ensures { result ≡ pid_of self }
     {

@@ -48,7 +48,7 @@ pub enum Reply {
 }
 
 impl Response {
-    // A method, which says that it is the code in a packet; the codes stand beside the cases.
+    // A method, here and below, which says that it is the code in a packet; the codes stand beside the cases.
     pub fn code(self) -> u8
         ensures { result ≡ response_code self }
     {

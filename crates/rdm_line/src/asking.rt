@@ -16,7 +16,7 @@ pub const TRANSACTION: u8 = 0;
 const LONGEST_QUESTION: usize = 38;
 
 // Writes a question, lends its bytes to every fixture of a table and answers what is then on the cable. What the writer
-// refuses is not sent, and the cable stays quiet.
+// refuses is not sent, and the cable stays quiet. Fixtures and mode come apart, as in `send`.
 pub fn ask(fixtures: &mut [Fixture], mode: Mode, question: Question) -> Cable
     ensures table { fixtures.new ≡ asked question fixtures.old }
     ensures signal { signal_on result ≡ replies mode question fixtures.old }

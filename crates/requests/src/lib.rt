@@ -1,4 +1,5 @@
-// The requests of the bench tool: from a request line to its answer line.
+// The requests of the bench tool: from a request line to its answer line. Text is put by functions, as in `shown`, and each asks
+// for the room that it takes.
 
 #![tactic(auto)]
 

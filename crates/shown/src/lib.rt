@@ -1,5 +1,6 @@
 // Refusals, bytes, keys and replies as text.
-// Kept functions, and no Display: a formatter may fail, and a writer whose room is known does not.
+// Functions, and no Display: a formatter may fail, and a writer whose room is known does not. Each asks for the room that it
+// takes.
 
 #![tactic(auto)]
 

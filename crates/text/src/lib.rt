@@ -1,4 +1,5 @@
 // Numbers and bytes as text: decimal and hexadecimal, both ways. The digits of a base, which both are made of, are here.
+// Text is put by functions and no Display, whose formatter may fail where a writer with room does not.
 
 #![tactic(auto)]
 

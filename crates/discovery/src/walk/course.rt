@@ -64,7 +64,7 @@ pub(crate) fn after_probe<K: Family>(
 ) -> Course<K>
     ensures { LeadsAs (λ r rs. law.after_probe r rs (probe_ranks K.Family.rank reply)) (range_ranks K.Family.rank range) (row_ranks K.Family.rank (rows_of book.now)) (row_ranks K.Family.rank (rows_of book.now)) (course_ranks K.Family.rank result) }
 {
-    if matches!(reply, ProbeAnswer::Silent) {
+    if reply == ProbeAnswer::Silent {
         return Course::Drop;
     }
     match (split(range), hint(book, range, reply)) {

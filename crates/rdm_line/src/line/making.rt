@@ -34,7 +34,8 @@ fn new_fixture(number: u64, width: u32) -> Option<Fixture>
     Some(Fixture::fresh(key, width as u16))
 }
 
-// A table with a fresh fixture for each key and width in its first places; none if there cannot be one of them.
+// A table with a fresh fixture for each key and width in its first places; none if there cannot be one of them. Two lists, as
+// they were given.
 fn fit(keys: &[u64], widths: &[u32]) -> Option<[Fixture; PLACES]>
     requires as_many { length keys.now ≡ length widths.now }
     requires places_for_all { length keys.now ≤ 128 }
