@@ -3,6 +3,7 @@ use crate::walk::Walk;
 use walk_law::phase::Phase;
 
 // Its line and its book are given to each call, as the rule of the project is: their owner keeps both, and may look at them.
+// The clauses name the members of the family one by one, as a bound has them: a record of them would be written out in each.
 pub struct Job<K> {
     walk: Walk<K>,
 }
