@@ -27,7 +27,7 @@ impl Unit {
 
 // What stands in the places of a vector of fixed capacity that are not in use.
 impl Default for Unit {
-    ghost is_default = { λ u. u ≡ fresh_unit u.key };
+    ghost is_default = { λ u. (u.key.value ≡ 0) × (u ≡ fresh_unit u.key) };
 
     fn default() -> Unit {
         Unit::fresh(RandomAddress { value: 0 })
