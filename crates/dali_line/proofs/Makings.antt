@@ -1,14 +1,23 @@
 -- How a line is made: its units, once they are fitted.
-use Rattle.std.proofs.Common.{◌≡◌, ℕ, true, false, cond, ◌||◌, eqb, List, [], ◌∷◌, map, Some, None, sym, refl, ap, ◌∙◌, arith}
+use Rattle.std.proofs.Common.{◌≡◌, ℕ, ◌≤◌, Bool, true, false, cond, ◌||◌, eqb, ltb, List, [], ◌∷◌, map, length, is_some, Some, None, Option, sym, refl, ap, ◌∙◌, arith}
+use Rattle.std.proofs.lemmas.List.{length-map}
+use Rattle.std.proofs.lemmas.Bool.{or_parts, lt-ltb, le-ltb, ltb-false}
 use Rattle.std.proofs.lemmas.Bool.Decides.{nat_tests}
 use Rattle.std.specs.Option.{option_map}
-use Rattle.keys.specs.RandomAddress.{random_number}
+use Rattle.refusals.specs.declared.Refusal.TheVariants.{Malformed, AboveLimit, KeyTwice}
+use Rattle.keys.specs.KeyNumbers.{is_random_number}
+use Rattle.keys.specs.RandomAddress.{random_number, RandomNumbered}
 use Rattle.keys.specs.declared.random_address.RandomAddress.{RandomAddress}
 use Rattle.lines.specs.Twice.{is_among, has_twice}
 use Rattle.units.specs.declared.unit.Unit.{Unit}
-use Rattle.dali_line.specs.Making.{as_made, FittedInto, fresh_meaning}
+use Rattle.dali_line.specs.Making.{above_limit, making_refusal, as_made, FittedInto, fresh_meaning}
 use Rattle.dali_line.specs.Meaning.{fixture_of}
 use Rattle.dali_line.specs.Table.{unit_number, all_fit, unit_at}
+
+-- A number that has a key is one of a key.
+pub numbered_is : (n : ℕ) (key : Option RandomAddress) → RandomNumbered n key → is_random_number n ≡ is_some key
+numbered_is n None e = le-ltb n _ e
+numbered_is n (Some key) e = lt-ltb n _ (omega arith)
 
 module _ (numbers : List ℕ) (units : List Unit) (fitted : FittedInto numbers units) where
   pub fitted_distinct : has_twice numbers ≡ false → has_twice (map unit_number units) ≡ false
@@ -17,6 +26,10 @@ module _ (numbers : List ℕ) (units : List Unit) (fitted : FittedInto numbers u
   all_shut : (us : List Unit) → all_fit false (map as_made us) ≡ true
   all_shut [] = refl
   all_shut (u ∷ us) = all_shut us
+
+  -- They are as many as the keys.
+  pub fitted_length : length units ≡ length numbers
+  fitted_length = sym (length-map units unit_number) ∙ ap length fitted.keys_in_order
 
   pub fitted_shut : all_fit false units ≡ true
   fitted_shut = ap (all_fit false) (sym fitted.fresh) ∙ all_shut units
@@ -38,3 +51,19 @@ module _ (numbers : List ℕ) (units : List Unit) (fitted : FittedInto numbers u
       ap (λ us. option_map fixture_of (unit_at us k)) (sym fitted.fresh)
       ∙ fitted_at k units
       ∙ ap (λ ns. (fresh_meaning ns).at k) fitted.keys_in_order
+
+-- Lists that earn no refusal.
+module _ (numbers widths : List ℕ) (mode : ℕ) (none : making_refusal numbers widths mode ≡ None) where
+  earns_none : (equal above twice : Bool) → cond equal (cond above (Some AboveLimit) (cond twice (Some KeyTwice) None)) (Some Malformed) ≡ None → (above ≡ false) × (twice ≡ false)
+  earns_none true false false e = (refl, refl)
+  earns_none true false true e = absurd (let z : ◌≡◌ {A = ℕ} 0 1 = cc in omega arith)
+  earns_none true true twice e = absurd (let z : ◌≡◌ {A = ℕ} 0 1 = cc in omega arith)
+  earns_none false above twice e = absurd (let z : ◌≡◌ {A = ℕ} 0 1 = cc in omega arith)
+
+  pub no_key_twice_lem : has_twice numbers ≡ false
+  no_key_twice_lem = (earns_none (eqb (length numbers) (length widths)) (above_limit numbers widths mode) (has_twice numbers) none).1
+
+  pub not_too_many : length numbers ≤ 64
+  not_too_many =
+      let below = (earns_none (eqb (length numbers) (length widths)) (above_limit numbers widths mode) (has_twice numbers) none).0 in
+      ltb-false 64 (length numbers) (or_parts (ltb 64 (length numbers)) _ below).0

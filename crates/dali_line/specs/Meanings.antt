@@ -183,6 +183,13 @@ any_kept test (u ∷ us) =
     (λ t. (t || list_any test us) ≡ not_empty (cond t (u ∷ filter test us) (filter test us)))
     [ true ↦ refl | false ↦ rest ]
 
+-- The units that a function of the line lends: the vector of its wire holds no others.
+abbrev pub lent_units : DaliLine → List Unit
+lent_units line = line.wire.units.items
+
+pub lent_are : (line : DaliLine) → lent_units line ≡ fitted_units line
+lent_are line = refl
+
 module _ (line : DaliLine) (key : RandomAddress) where
   selected : filter (selected_at (random_number key)) (fitted_units line) ≡ cond line.live (option_to_list (unit_at (fitted_units line) key)) []
   selected = selected_are line.live key (fitted_units line) line.distinct line.states

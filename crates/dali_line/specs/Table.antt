@@ -1,5 +1,5 @@
 -- The units of a line.
-use Rattle.std.specs.Prelude.{ℕ, Bool, cond, not, List, Option, ◌==◌}
+use Rattle.std.specs.Prelude.{ℕ, Bool, cond, not, List, ◌++◌, map, take, drop, Option, ◌==◌}
 use Rattle.std.specs.List.{list_all, find}
 use Rattle.keys.specs.RandomAddress.{random_number}
 use Rattle.keys.specs.declared.random_address.RandomAddress.{RandomAddress}
@@ -20,3 +20,7 @@ all_fit live us = list_all (fits live) us
 -- The unit that has a key.
 abbrev pub unit_at : List Unit → RandomAddress → Option Unit
 unit_at us k = find (λ u. unit_number u == random_number k) us
+
+-- A table with its first units changed, and all others as they were.
+abbrev pub changed_first : (Unit → Unit) → ℕ → List Unit → List Unit
+changed_first f n units = map f (take n units) ++ drop n units

@@ -1,6 +1,9 @@
 -- Tables of units.
-use Rattle.std.specs.Prelude.{◌≡◌, ℕ, Bool, true, false, cond, not, ◌&&◌, List, [], ◌∷◌, map, Some, filter, ◌==◌, refl}
+use Rattle.std.specs.Prelude.{◌≡◌, ℕ, zero, suc, ◌-◌, Bool, true, false, cond, not, ◌&&◌, List, [], ◌∷◌, ◌++◌, map, take, drop, Some, filter, ◌==◌, refl}
 use Rattle.std.proofs.Common.{sym, ap, ◌∙◌, arith}
+use Rattle.std.proofs.Math.Nat.{sub-zero}
+use borrow.Rule.Slice.PartMut.{post_of}
+use Rattle.std.proofs.lemmas.List.{take-append-drop}
 use Rattle.std.proofs.lemmas.Bool.{and_parts, or_parts, eqb-true}
 use Rattle.std.proofs.lemmas.Bool.Decides.{nat_tests}
 use Rattle.std.specs.Option.{option_to_list}
@@ -10,7 +13,13 @@ use Rattle.units.specs.State.{is_disabled}
 use Rattle.units.specs.declared.unit.Unit.{Unit}
 use Rattle.dali_line.specs.Controller.{selected_at}
 use Rattle.lines.specs.Twice.{is_among, has_twice}
-use Rattle.dali_line.specs.Table.{unit_number, all_fit, unit_at}
+use Rattle.dali_line.specs.Table.{unit_number, all_fit, unit_at, changed_first}
+
+-- The first units, once they are changed.
+pub take-changed : (f : Unit → Unit) (n : ℕ) (us : List Unit) → take n (changed_first f n us) ≡ map f (take n us)
+take-changed f zero us = refl
+take-changed f (suc n) [] = refl
+take-changed f (suc n) (u ∷ us) = ap (λ l. f u ∷ l) (take-changed f n us)
 
 -- While a line is shut no unit is selected.
 none_selected : (n : ℕ) (us : List Unit) → all_fit false us ≡ true → filter (selected_at n) us ≡ []
@@ -50,3 +59,10 @@ pub selected_are : (live : Bool) (k : RandomAddress) (us : List Unit) → has_tw
     → filter (selected_at (random_number k)) us ≡ cond live (option_to_list (unit_at us k)) []
 selected_are true k us distinct e = one_selected k us distinct e
 selected_are false k us distinct e = none_selected (random_number k) us e
+
+-- The table once its first n places were lent: what was made of them, and the places behind.
+pub lent_changed : (f : Unit → Unit) (n : ℕ) (units lent : List Unit) → lent ≡ map f (take (n - 0) units) → lent ++ post_of 0 (n - 0) units ≡ changed_first f n units
+lent_changed f n units lent e = ap (λ l. l ++ drop (n - 0) units) e ∙ ap (λ m. map f (take m units) ++ drop m units) (sub-zero n)
+
+pub lent_same : (n : ℕ) (units lent : List Unit) → lent ≡ take (n - 0) units → lent ++ post_of 0 (n - 0) units ≡ units
+lent_same n units lent e = ap (λ l. l ++ drop (n - 0) units) e ∙ take-append-drop (n - 0) units

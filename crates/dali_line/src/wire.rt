@@ -1,12 +1,11 @@
 // Units on the bus that they share, and what a controller says to them, frame by frame.
-ghost use Rattle.std.specs.Prelude.{◌≡◌, map, is_some, filter};
+ghost use Rattle.std.specs.Prelude.{◌≡◌, ◌≤◌, length, map, is_some, filter};
 ghost use Rattle.std.specs.List.{list_any};
 ghost use Rattle.keys.specs.RandomAddress.{random_number};
 ghost use Rattle.dali.specs.declared.frame.Frame.TheVariants.{Initialise, Compare, QueryShortAddress};
 ghost use Rattle.units.specs.declared.state.State.TheVariants.{Enabled};
 ghost use Rattle.units.specs.Unit.{with_state};
 ghost use Rattle.units.specs.Sent.{Sent};
-ghost use Rattle.dali_line.specs.Controller.{Becomes, units_after_all, bus_after_all, seeking, said_to, said, withdrawn_at, selected_at, compares_up_to, addressed_at, told};
 
 use crate::line::PLACES;
 use arrayvec::ArrayVec;
@@ -24,9 +23,12 @@ use units::unit::Unit;
 pub struct Wire {
     pub units: ArrayVec<Unit, PLACES>,
     pub bus: Bus,
+    ghost within: { length units.items ≤ 64 },
 }
 
 impl Wire {
+    ghost use Rattle.dali_line.specs.Controller.{Becomes, units_after_all, bus_after_all, seeking, said_to, said, withdrawn_at, selected_at, compares_up_to, addressed_at, told};
+
     // Sends a frame to every unit.
     pub fn send(&mut self, frame: Frame) -> Received
         ensures { Sent self.old.units.items self.old.bus frame result self.new.units.items self.new.bus }

@@ -1,14 +1,16 @@
 -- From the code of hearing to its definition.
-use Rattle.std.proofs.Common.{◌≡◌, ℕ, ◌≤◌, true, false, ltb, List, [], ◌∷◌, length, Some, None, Err, Option, sym, refl, ap, ◌∙◌, arith}
-use Rattle.std.proofs.lemmas.Bool.{le-leb, cond-true}
+use Rattle.std.proofs.Common.{◌≡◌, ℕ, ◌^◌, ◌<◌, ◌≤◌, ◌⊎◌, true, false, cond, ltb, leb, List, [], ◌∷◌, length, Some, None, Err, Option, sym, refl, ap, ◌∙◌, inl, inr, arith}
+use Rattle.std.proofs.lemmas.Bool.{le-leb, leb-false, cond-true, cases_Bool}
 use Rattle.std.specs.Option.{option_map}
 use Rattle.keys.specs.declared.range.Range.{Range}
 use Rattle.refusals.specs.declared.Refusal.{Refusal}
+use Rattle.refusals.specs.declared.Refusal.TheVariants.{QuestionsSpent, OtherKind}
 use Rattle.walk_law.specs.Listing.{lists_in, unless_refusal, lists_key}
 use Rattle.walk_law.specs.Ranks.{is_in, put_in}
 use Rattle.walk_law.specs.Run.{answer_ranks}
-use Rattle.walk_law.specs.Walk.{Walk, walking, in_memory, after_yes, after_answer, is_one, ended, refusal_of, unless_refused, heard, told, told_unless, hearing_told, most_pending}
-use Rattle.walk_law.specs.declared.phase.Phase.TheVariants.{Walking, Contradicted}
+use Rattle.walk_law.specs.Walk.{Walk, walking, in_memory, after_yes, after_answer, is_one, ended, is_other_kind, refusal_in, refusal_of, unless_refused, heard, told, told_unless, hearing_told, most_pending}
+use Rattle.walk_law.specs.declared.phase.Phase.{Phase}
+use Rattle.walk_law.specs.declared.phase.Phase.TheVariants.{Walking, Walked, Laid, Set, Full, Contradicted}
 use Rattle.walk_law.specs.declared.question.Answer.{Answer}
 use Rattle.discovery.specs.Courses.{LeadsAs, taken}
 use Rattle.discovery.specs.Pending.{without_first, first_of}
@@ -93,3 +95,18 @@ module _ (places : ℕ) (w : Walk) (a : Answer ℕ) where
     pub unrefused_lists : lists_key places w a ≡ lists_in places w.pending w.hushing a w.listed
     unfolding lists_key
     unrefused_lists = ap (λ o. unless_refusal o (lists_in places w.pending w.hushing a w.listed)) is
+
+-- An answer that is not refused finds the walk walking, with questions left.
+pub unrefused : (phase : Phase) (questions : ℕ) (hushing : Option ℕ) (a : Answer ℕ) → refusal_in phase questions hushing a ≡ None
+    → (questions < 2 ^ 24) × (phase ≡ Walking)
+unrefused Walking questions hushing a is = (by_count (cases_Bool (leb (2 ^ 24) questions)), refl)
+  where
+    by_count : (leb (2 ^ 24) questions ≡ true) ⊎ (leb (2 ^ 24) questions ≡ false) → questions < 2 ^ 24
+    by_count (inr few) = leb-false _ _ few
+    by_count (inl spent) =
+        absurd (let some : Some QuestionsSpent ≡ None = sym (cond-true (leb (2 ^ 24) questions) (Some QuestionsSpent) (cond (is_other_kind hushing a) (Some OtherKind) None) spent) ∙ is in let z : ◌≡◌ {A = ℕ} 0 1 = cc in omega arith)
+unrefused Walked questions hushing a is = absurd (let z : ◌≡◌ {A = ℕ} 0 1 = cc in omega arith)
+unrefused Laid questions hushing a is = absurd (let z : ◌≡◌ {A = ℕ} 0 1 = cc in omega arith)
+unrefused Set questions hushing a is = absurd (let z : ◌≡◌ {A = ℕ} 0 1 = cc in omega arith)
+unrefused Full questions hushing a is = absurd (let z : ◌≡◌ {A = ℕ} 0 1 = cc in omega arith)
+unrefused Contradicted questions hushing a is = absurd (let z : ◌≡◌ {A = ℕ} 0 1 = cc in omega arith)

@@ -1,10 +1,9 @@
 // A family of keys: the keys that can be fitted to one kind of line, ordered by rank, and the addresses that
 // its fixtures can be given.
 ghost use Rattle.std.specs.Prelude.{◌≡◌, ℕ, ◌^◌, ◌<◌, ◌≤◌};
-ghost use Rattle.std.specs.Ordering.{nat_cmp};
 ghost use Rattle.keys.specs.Family.{AtRank};
 
-pub trait Family: Copy + Ord {
+pub trait Family: Copy {
     // The place of a key among the keys of the family, counted from 0.
     ghost rank: { Self → ℕ };
 
@@ -37,9 +36,6 @@ pub trait Family: Copy + Ord {
         ensures { result ≡ count };
 
     ghost same_rank_same_key: { (x y : Self) → rank x ≡ rank y → x ≡ y };
-
-    // Keys compare as their ranks do.
-    ghost ordered_by_rank: { (x y : Self) → Self.Ord.cmp x y ≡ nat_cmp (rank x) (rank y) };
 
     ghost no_rank_above_top: { (x : Self) → rank x ≤ top };
 

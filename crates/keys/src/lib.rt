@@ -5,6 +5,7 @@
 pub mod address;
 pub mod family;
 pub mod order;
+pub mod ordered;
 pub mod random_address;
 pub mod range;
 pub mod uid;

@@ -1,5 +1,5 @@
 // The order of the keys of a family, which is that of their ranks.
-ghost use Rattle.std.specs.Prelude.{◌≡◌, ◌+◌, ◌/◌, ◌≤◌};
+ghost use Rattle.std.specs.Prelude.{◌≡◌, ◌+◌, ◌/◌, ◌≤◌, ◌==◌, nat_lt};
 ghost use Rattle.keys.specs.Family.{Next};
 
 use crate::family::Family;
@@ -36,4 +36,16 @@ pub fn after<K: Family>(key: K) -> Option<K>
     ensures { Next K.rank K.top key result }
 {
     K::from_rank(key.to_rank() + 1)
+}
+
+pub fn is_below<K: Family>(key: K, other: K) -> bool
+    ensures { result ≡ nat_lt (K.rank key) (K.rank other) }
+{
+    key.to_rank() < other.to_rank()
+}
+
+pub fn is_same<K: Family>(key: K, other: K) -> bool
+    ensures { result ≡ (K.rank key == K.rank other) }
+{
+    key.to_rank() == other.to_rank()
 }

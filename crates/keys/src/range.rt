@@ -2,7 +2,7 @@
 ghost use Rattle.keys.specs.Family.{Halves};
 
 use crate::family::Family;
-use crate::order::{after, half};
+use crate::order::{after, half, is_below};
 
 #[derive(Clone, Copy, PartialEq, Eq)]
 pub struct Range<K> {
@@ -14,7 +14,7 @@ pub struct Range<K> {
 pub fn split<K: Family>(range: Range<K>) -> Option<(Range<K>, Range<K>)>
     ensures { Halves K.rank range result }
 {
-    if range.hi <= range.lo {
+    if !is_below(range.lo, range.hi) {
         return None;
     }
     let middle = half(range.lo, range.hi);

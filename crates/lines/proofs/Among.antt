@@ -1,8 +1,15 @@
 -- What a search among numbers tells.
 use Rattle.std.proofs.Common.{◌≡◌, ℕ, Bool, ◌||◌, eqb, List, [], ◌∷◌, sym, refl, ap, ◌∙◌, arith}
-use Rattle.std.proofs.lemmas.Bool.Decides.{nat_tests}
-use Rattle.std.specs.List.{list_any}
+use Rattle.std.proofs.lemmas.Bool.Decides.{nat_tests, same_from_decides, Decides-by_or, Decides-like, Decides-eqb}
+use Rattle.std.proofs.lemmas.List.Elements.{contains_decides}
+use Rattle.std.specs.List.{IsAnyAnswer, list_any}
 use Rattle.lines.specs.Twice.{is_among, has_twice}
+
+-- What a search through a list tells.
+pub among_contains : (n : ℕ) (ms : List ℕ) (r : Bool) → IsAnyAnswer (λ m t. eqb m n ≡ t) ms r → r ≡ is_among n ms
+among_contains n ms r found =
+    same_from_decides r (is_among n ms) (contains_decides eqb Decides-eqb ms n r found)
+    (Decides-by_or (eqb n) (λ m. m ≡ n) (is_among n) (λ m. Decides-like (eqb n m) sym sym (Decides-eqb n m)) refl (λ _ _. refl) ms)
 
 found_among : (n : ℕ) (ms : List ℕ) → list_any (λ m. eqb m n) ms ≡ is_among n ms
 found_among n [] = refl

@@ -3,6 +3,18 @@ use Rattle.std.proofs.Common.{◌≡◌, ℕ, ◌+◌, ◌≤◌, List, ◌++◌
 use Rattle.std.proofs.lemmas.List.{take_at, length-take-le, drop-drop, drop_at}
 use Rattle.octets.specs.Buffer.{put_at, begun}
 
+-- A part put right behind what is written.
+pub put_begun : (buf written part : List ℕ) (n : ℕ) → length written ≡ n → put_at (begun buf written) n part ≡ begun buf (written ++ part)
+put_begun buf written part n e =
+    let rest = drop (length written) buf in
+    let m = length part in
+    let behind : drop (n + m) (written ++ rest) ≡ drop (length (written ++ part)) buf =
+    sym (drop-drop m n (written ++ rest))
+    ∙ ap (drop m) (drop_at written rest n e)
+    ∙ drop-drop m (length written) buf
+    ∙ ap (λ k. drop k buf) (sym (length-append written part)) in
+    rw (take_at written rest n e, behind, append_assoc)
+
 -- What is written can be read.
 pub take-begun : (buf written : List ℕ) (n : ℕ) → length written ≡ n → take n (begun buf written) ≡ written
 take-begun buf written n e = take_at written (drop (length written) buf) n e

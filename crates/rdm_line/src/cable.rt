@@ -10,13 +10,13 @@ use fixtures::message::Message;
 use keys::uid::Uid;
 
 // A message, and the lowest key of those that sent it.
-#[derive(Drop)]
+#[derive(Clone, Copy)]
 pub struct Sent {
     pub message: Message,
     pub sender: Uid,
 }
 
-#[derive(Drop)]
+#[derive(Clone, Copy)]
 pub enum Cable {
     // Nobody replied.
     Quiet,

@@ -5,6 +5,7 @@ ghost use Rattle.records.specs.Rows.{row_ranks, place_of, with_key};
 
 use crate::record::Record;
 use keys::family::Family;
+use keys::order::{is_below, is_same};
 
 // These two go through the rows from the first on. A binary search would ask that the rows ascend, as those of a book do, and
 // other callers' need not.
@@ -13,7 +14,7 @@ use keys::family::Family;
 pub fn is_listed<K: Family>(rows: &[Record<K>], key: K) -> bool
     ensures { result ≡ is_in (K.Family.rank key) (row_ranks K.Family.rank rows.now) }
 {
-    rows.iter().any(|row| key == row.key)
+    rows.iter().any(|row| is_same(key, row.key))
 }
 
 // Where a key belongs: behind the first rows, as long as their keys are below it.
@@ -21,7 +22,7 @@ fn place<K: Family>(rows: &[Record<K>], key: K) -> usize
     ensures value { result ≡ place_of K.Family.rank (K.Family.rank key) rows.now }
     ensures bound { result ≤ length rows.now }
 {
-    rows.iter().take_while(|row| row.key < key).count()
+    rows.iter().take_while(|row| is_below(row.key, key)).count()
 }
 
 // Lists a key among so many rows at the beginning of some memory; those behind it move up by one. Answers whether there was

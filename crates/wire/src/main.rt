@@ -6,17 +6,26 @@ use requests::{LONGEST, ROOM, answer};
 use std::io;
 use std::io::{BufRead, BufReader, BufWriter, Read, Write};
 
-// Reads a line without its newline, but of one that is too long only as much as shows it. False at the end of the input.
+// One byte more than is answered, so that a longer line is known.
+const MOST: usize = LONGEST + 1;
+
+// Reads a line without its newline, but of one that is too long only as much as shows it. False if the input ended it: whoever
+// types is asked for the end of the input once, and nothing is read behind it.
 fn read_line<R: BufRead>(input: &mut R, line: &mut Vec<u8>) -> io::Result<bool> {
     line.clear();
-    let most = LONGEST as u64 + 1;
-    let read = input.by_ref().take(most).read_until(b'\n', line)?;
-    if line.last() == Some(&b'\n') {
-        line.pop();
-    } else if line.len() > LONGEST {
-        input.skip_until(b'\n')?;
+    // Kept a count, here and below: a loop has to end, and no number tells how much input comes.
+    for _ in 0..u64::MAX {
+        line.truncate(MOST);
+        let read = input.by_ref().take(MOST as u64).read_until(b'\n', line)?;
+        if line.last() == Some(&b'\n') {
+            line.pop();
+            return Ok(true);
+        }
+        if read < MOST {
+            break;
+        }
     }
-    Ok(read > 0)
+    Ok(false)
 }
 
 // Prints a line and its answer.
@@ -33,14 +42,16 @@ fn print_answer<W: Write>(output: &mut W, line: &[u8], out: &mut [u8]) -> io::Re
 fn main(rt: HostRuntime) -> io::Result<()> {
     let mut input = BufReader::new(rt.alloc(), rt.stdin())?;
     let mut output = BufWriter::new(rt.alloc(), rt.stdout())?;
-    let mut line = Vec::with_capacity(rt.alloc(), LONGEST + 1)?;
+    let mut line = Vec::with_capacity(rt.alloc(), 2 * MOST)?;
     let mut out = vec![in rt.alloc(); 0u8; ROOM]?;
-    // Kept a count: a loop has to end, and no number tells how much input comes.
     for _ in 0..u64::MAX {
-        if !read_line(&mut input, &mut line)? {
+        let goes_on = read_line(&mut input, &mut line)?;
+        if goes_on || !line.is_empty() {
+            print_answer(&mut output, line.as_slice(), out.as_mut_slice())?;
+        }
+        if !goes_on {
             break;
         }
-        print_answer(&mut output, line.as_slice(), out.as_mut_slice())?;
     }
     output.flush()
 }

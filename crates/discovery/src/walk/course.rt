@@ -11,6 +11,7 @@ ghost use Rattle.discovery.specs.Walks.{hinted};
 
 use crate::book::Book;
 use keys::family::Family;
+use keys::order::is_below;
 use keys::range::{Range, split};
 use lines::answers::ProbeAnswer;
 use walk_law::phase::Phase;
@@ -33,14 +34,14 @@ pub(crate) enum Course<K> {
 fn is_one<K: Family>(range: Range<K>) -> bool
     ensures { result ≡ law.is_one (range_ranks K.Family.rank range) }
 {
-    range.hi <= range.lo
+    !is_below(range.lo, range.hi)
 }
 
 // Whether a key is in a range.
 fn is_within<K: Family>(key: K, range: Range<K>) -> bool
     ensures { result ≡ law.in_range (K.Family.rank key) (range_ranks K.Family.rank range) }
 {
-    range.lo <= key && key <= range.hi
+    !is_below(key, range.lo) && !is_below(range.hi, key)
 }
 
 // A key that was read is only a hint, since replies that overlap can read as a key that is not fitted. It is none if it is
@@ -64,7 +65,8 @@ pub(crate) fn after_probe<K: Family>(
 ) -> Course<K>
     ensures { LeadsAs (λ r rs. law.after_probe r rs (probe_ranks K.Family.rank reply)) (range_ranks K.Family.rank range) (row_ranks K.Family.rank (rows_of book.now)) (row_ranks K.Family.rank (rows_of book.now)) (course_ranks K.Family.rank result) }
 {
-    if reply == ProbeAnswer::Silent {
+    // By its variant, since keys of any family cannot be compared by `==`.
+    if matches!(reply, ProbeAnswer::Silent) {
         return Course::Drop;
     }
     match (split(range), hint(book, range, reply)) {

@@ -3,6 +3,7 @@ ghost use Rattle.keys.specs.RandomAddress.{random_rank, random_top};
 ghost use Rattle.keys.specs.RandomAddresses.{same_from_rank, in_order_of_rank, rank_within, with_rank, random_top_below_power, random_levels_in_bounds, random_addresses_in_bounds};
 
 use crate::family::Family;
+use crate::ordered::Ordered;
 use crate::random_address::RandomAddress;
 
 const HIGHEST_RANK: u64 = 0xFF_FFFF;
@@ -19,8 +20,6 @@ impl Family for RandomAddress {
     ghost count = { 64 };
 
     ghost same_rank_same_key = { same_from_rank };
-
-    ghost ordered_by_rank = { in_order_of_rank };
 
     ghost no_rank_above_top = { rank_within };
 
@@ -55,4 +54,8 @@ impl Family for RandomAddress {
     fn address_count() -> u16 {
         64
     }
+}
+
+impl Ordered for RandomAddress {
+    ghost ordered_by_rank = { in_order_of_rank };
 }

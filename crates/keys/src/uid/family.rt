@@ -3,6 +3,7 @@ ghost use Rattle.keys.specs.Uid.{uid_rank, uid_top};
 ghost use Rattle.keys.specs.Uids.{same_from_rank, in_order_of_rank, rank_within, with_rank, uid_top_below_power, uid_levels_in_bounds, uid_addresses_in_bounds};
 
 use crate::family::Family;
+use crate::ordered::Ordered;
 use crate::uid::Uid;
 
 const HIGHEST_RANK: u64 = 0xFFFF_FFFF_FFFE;
@@ -19,8 +20,6 @@ impl Family for Uid {
     ghost count = { 512 };
 
     ghost same_rank_same_key = { same_from_rank };
-
-    ghost ordered_by_rank = { in_order_of_rank };
 
     ghost no_rank_above_top = { rank_within };
 
@@ -58,4 +57,8 @@ impl Family for Uid {
     fn address_count() -> u16 {
         512
     }
+}
+
+impl Ordered for Uid {
+    ghost ordered_by_rank = { in_order_of_rank };
 }

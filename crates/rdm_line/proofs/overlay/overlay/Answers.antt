@@ -1,12 +1,19 @@
-use Rattle.std.specs.Slice.Iter.{iter_rest}
-use Rattle.std.proofs.lemmas.Slice.Zip.{either_empty_from_Zip}
-use Rattle.branch.specs.Overlaid.{overlaid}
-use Rattle.fixtures.specs.Message.{message_bytes}
-use Rattle.rdm_line.proofs.Overlays.{overlaid_whole}
+use Rattle.std.proofs.Common.{◌∙◌, arith, rules, length-set}
+use Rattle.rdm_line.proofs.Overlays.{overlaid_more, overlaid_all}
 use Rattle.rdm_line.proofs.overlay.overlay.Goals as goal
+
+pub loop-i-preserved : goal.loop-i-preserved
+loop-i-preserved g c = (
+  λ joined joins. overlaid_more joined c.loop-i.bytes c.args.a.now.bytes c.args.b.now.bytes c.loop-i.i _ (omega arith) (omega arith)
+      (omega arith)
+      (joins _ _ _ (search rules) (search rules) c.join.ensures)
+      (c.loop-i.invariant.0 joined joins),
+  length-set _ _ _ ∙ c.loop-i.invariant.1,
+)
 
 pub returns : goal.returns
 returns g c joined joins =
-    let end = either_empty_from_Zip c.loop-x.x-iterator c.next.new.self c.next.result c.in-None.is c.next.ensures.steps in
-    let bytes = c.loop-x.bytes.items in
-    overlaid_whole joined bytes (iter_rest c.loop-x.x-iterator.a) (iter_rest c.loop-x.x-iterator.b) (overlaid joined (message_bytes c.args.a.now) (message_bytes c.args.b.now)) (c.loop-x.invariant.3 joined joins) end
+    overlaid_all joined c.loop-i.bytes c.args.a.now.bytes c.args.b.now.bytes c.args.a.now.len c.args.b.now.len _ c.loop-i.i
+    c.min-len.ensures
+    (omega arith)
+    (c.loop-i.invariant.0 joined joins)

@@ -3,12 +3,12 @@ use Rattle.std.proofs.lemmas.List.{take_all}
 use Rattle.octets.specs.Writer.{Wrote}
 use Rattle.octets.proofs.Writing.{wrote_next}
 use Rattle.text.specs.Hexadecimal.{bytes_of}
-use Rattle.text.proofs.HexText.{length_bytes, pair_more}
+use Rattle.text.proofs.HexText.{length_bytes, pair_next}
 use Rattle.text.proofs.hexadecimal.put_pairs.Goals as goal
 
 pub loop-a-preserved : goal.loop-a-preserved
 loop-a-preserved c =
-    wrote_next _ _ _ _ _ _ c.loop-a.invariant c.put.ensures (pair_more c.args.text.now _ c.loop-a.a-index _ c.as_chunks.ensures.front (omega arith) c.byte.ensures)
+    wrote_next _ _ _ _ _ _ c.loop-a.invariant c.put.ensures (pair_next c.args.text.now _ c.loop-a.a-index _ c.as_chunks.ensures.front (omega arith) c.byte.ensures)
 
 pub returns : goal.returns
 returns c =
