@@ -58,7 +58,7 @@ pub enum Outgoing {
 impl Outgoing {
     // Writes the frame and answers its length. Refuses in this order: a number that is no key (1), ends that are not in
     // order (2), an address outside the family (3), a buffer that is too short (4), and then writes nothing.
-    // Inlined, since each function for C calls it with one case alone, of which the others are left out there.
+    // Inlined: each function for C calls it with one case, so that the other cases fall away there.
     #[inline(always)]
     pub fn write(self, buf: &mut [u8]) -> Result<usize, Refusal>
         ensures answer { result ≡ answered (outgoing_refusal self) (outgoing_frame self) buf.old }

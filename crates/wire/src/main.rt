@@ -4,25 +4,28 @@
 
 use requests::{LONGEST, ROOM, answer};
 use std::io;
-use std::io::{BufRead, BufReader, BufWriter, Read, Write};
+use std::io::{BufRead, BufReader, BufWriter, Write};
 
 // One byte more than is answered, so that a longer line is known.
 const MOST: usize = LONGEST + 1;
 
-// Reads a line without its newline, but of one that is too long only as much as shows it. False if the input ended it: whoever
-// types is asked for the end of the input once, and nothing is read behind it.
+// Reads a line without its newline, but of one that is too long only as much as shows it. False if the input ended it, behind
+// whose end nothing is read.
 fn read_line<R: BufRead>(input: &mut R, line: &mut Vec<u8>) -> io::Result<bool> {
     line.clear();
     // Kept a count, here and below: a loop has to end, and no number tells how much input comes.
     for _ in 0..u64::MAX {
-        line.truncate(MOST);
-        let read = input.by_ref().take(MOST as u64).read_until(b'\n', line)?;
-        if line.last() == Some(&b'\n') {
-            line.pop();
-            return Ok(true);
-        }
-        if read < MOST {
+        let ahead = input.fill_buf()?;
+        if ahead.is_empty() {
             break;
+        }
+        let newline = ahead.iter().position(|b| *b == b'\n');
+        let end = newline.unwrap_or(ahead.len());
+        let kept = end.min(MOST.saturating_sub(line.len()));
+        line.extend_from_slice(&ahead[..kept])?;
+        input.consume(newline.map_or(end, |at| at + 1));
+        if newline.is_some() {
+            return Ok(true);
         }
     }
     Ok(false)
@@ -42,7 +45,7 @@ fn print_answer<W: Write>(output: &mut W, line: &[u8], out: &mut [u8]) -> io::Re
 fn main(rt: HostRuntime) -> io::Result<()> {
     let mut input = BufReader::new(rt.alloc(), rt.stdin())?;
     let mut output = BufWriter::new(rt.alloc(), rt.stdout())?;
-    let mut line = Vec::with_capacity(rt.alloc(), 2 * MOST)?;
+    let mut line = Vec::with_capacity(rt.alloc(), MOST)?;
     let mut out = vec![in rt.alloc(); 0u8; ROOM]?;
     for _ in 0..u64::MAX {
         let goes_on = read_line(&mut input, &mut line)?;

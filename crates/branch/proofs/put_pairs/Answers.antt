@@ -1,4 +1,4 @@
-use Rattle.std.proofs.Common.{take, arith}
+use Rattle.std.proofs.Common.{take, arith, rules}
 use Rattle.std.proofs.lemmas.List.{length-take-le}
 use Rattle.octets.proofs.Writing.{wrote_next}
 use Rattle.branch.proofs.BranchReplies.{length_pairs, pairs_more}
@@ -11,4 +11,4 @@ put-requires c =
 
 pub loop-b-preserved : goal.loop-b-preserved
 loop-b-preserved c =
-    wrote_next _ _ _ _ _ _ c.loop-b.invariant c.put.ensures (pairs_more c.args.bytes.now c.loop-b.b-index c.loop-b-test.true)
+    wrote_next _ _ _ _ _ _ c.loop-b.invariant c.put.ensures (search (rules, pairs_more c.args.bytes.now c.loop-b.b-index c.loop-b-test.true))

@@ -6,6 +6,6 @@ use Rattle.fields.proofs.field.Goals as goal
 
 pub returns : goal.returns
 returns c =
-    nth_from_yields_List _ _ c.args.n c.nth.ensures.ran
-    (YieldsList-from_slice_split _ (λ x. eqb x 32) c.args.line.now c.split.ensures.rest c.split.ensures.done c.split.ensures.closure (λ x b q called. search rules))
-    ∙ field_is_part c.args.n c.args.line.now
+    nth_from_yields_List _ _ _ c.nth.ensures.ran
+    (YieldsList-from_slice_split _ (λ x. eqb x 32) _ c.split.ensures.rest c.split.ensures.done c.split.ensures.closure (λ x b q called. search rules))
+    ∙ search (rules, field_is_part c.args.n c.args.line.now)

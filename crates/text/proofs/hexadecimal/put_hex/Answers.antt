@@ -13,7 +13,7 @@ put-requires c =
 
 pub loop-b-preserved : goal.loop-b-preserved
 loop-b-preserved c =
-    wrote_next _ _ _ _ _ _ c.loop-b.invariant c.put.ensures (hex_next c.args.bytes.now c.loop-b.b-index _ _ c.loop-b-test.true c.digit_char.ensures c.digit_char-in-loop-b.ensures)
+    wrote_next _ _ _ _ _ _ c.loop-b.invariant c.put.ensures (hex_next c.args.bytes.now c.loop-b.b-index _ _ c.loop-b-test.true (search rules) (search rules))
 
 pub returns-clause-reads_back : goal.returns-clause-reads_back
 returns-clause-reads_back c = hex_reads_back c.args.bytes.now (All-from_get_or (λ b. b < 256) c.args.bytes.now 0 (λ i _. search (rules, c.type_inv.bytes i)))
