@@ -1,16 +1,17 @@
 -- How a line is made: its units, once they are fitted.
-use Rattle.std.proofs.Common.{◌≡◌, ℕ, ◌≤◌, Bool, true, false, cond, ◌||◌, eqb, ltb, List, [], ◌∷◌, map, length, is_some, Some, None, Option, sym, refl, ap, ◌∙◌, arith}
+use Rattle.std.proofs.Common.{◌≡◌, ℕ, ◌≤◌, Bool, true, false, cond, ◌||◌, eqb, ltb, List, [], ◌∷◌, map, length, is_some, Some, None, Option, sym, refl, ap, subst, ◌∙◌, arith}
 use Rattle.std.proofs.lemmas.List.{length-map}
 use Rattle.std.proofs.lemmas.Bool.{or_parts, lt-ltb, le-ltb, ltb-false}
 use Rattle.std.proofs.lemmas.Bool.Decides.{nat_tests}
 use Rattle.std.specs.Option.{option_map}
+use Rattle.arrayvec.specs.ArrayVec.{ArrayVec}
 use Rattle.refusals.specs.declared.Refusal.TheVariants.{Malformed, AboveLimit, KeyTwice}
 use Rattle.keys.specs.KeyNumbers.{is_random_number}
 use Rattle.keys.specs.RandomAddress.{random_number, RandomNumbered}
 use Rattle.keys.specs.declared.random_address.RandomAddress.{RandomAddress}
 use Rattle.lines.specs.Twice.{is_among, has_twice}
 use Rattle.units.specs.declared.unit.Unit.{Unit}
-use Rattle.dali_line.specs.Making.{above_limit, making_refusal, as_made, FittedInto, fresh_meaning}
+use Rattle.dali_line.specs.Making.{above_limit, making_refusal, as_made, FittedInto, Fitted, fresh_meaning}
 use Rattle.dali_line.specs.Meaning.{fixture_of}
 use Rattle.dali_line.specs.Table.{unit_number, all_fit, unit_at}
 
@@ -18,6 +19,10 @@ use Rattle.dali_line.specs.Table.{unit_number, all_fit, unit_at}
 pub numbered_is : (n : ℕ) (key : Option RandomAddress) → RandomNumbered n key → is_random_number n ≡ is_some key
 numbered_is n None e = le-ltb n _ e
 numbered_is n (Some key) e = lt-ltb n _ (omega arith)
+
+-- Units that were fitted are those of the numbers.
+pub fitted_from : (numbers : List ℕ) (units : ArrayVec Unit) (r : Option (ArrayVec Unit)) → Fitted numbers r → r ≡ Some units → FittedInto numbers units.items
+fitted_from numbers units r fitted is = let here : Fitted numbers (Some units) = subst (Fitted numbers) is fitted in here.1
 
 module _ (numbers : List ℕ) (units : List Unit) (fitted : FittedInto numbers units) where
   pub fitted_distinct : has_twice numbers ≡ false → has_twice (map unit_number units) ≡ false

@@ -33,12 +33,10 @@ hex_more buf bytes b0 b1 at i end more room is p0 p1 =
     let x = get_or bytes i 0 in
     let size = length-hex (take i bytes) in
     let few = length-take-le i bytes (omega arith) in
-    let next : hex_text (take i bytes) ++ byte_text x ≡ hex_text (take (i + 1) bytes) =
-    flat_map_more byte_text [] (take i bytes) x ∙ ap hex_text (sym (take_more bytes i 0 more)) in
     p1
     ∙ ap (λ b. put_at b end (byte_text x)) p0
     ∙ put-put buf (hex_text (take i bytes)) (byte_text x) at end (omega arith) (omega arith)
-    ∙ ap (put_at buf at) next
+    ∙ ap (put_at buf at) (hex_next bytes i _ _ more refl refl)
 
 pub length_bytes : (text : List ℕ) → length (bytes_of text) ≡ length text / 2
 length_bytes [] = refl
@@ -54,18 +52,21 @@ chunk_byte (suc k) (a ∷ []) i h few = absurd (omega arith)
 chunk_byte (suc k) (a ∷ b ∷ text) zero h few = refl
 chunk_byte (suc k) (a ∷ b ∷ text) (suc i) h few = chunk_byte k text i (omega arith) (omega arith)
 
+-- One byte more.
+byte_next : (text : List ℕ) (i x : ℕ) → i < length text / 2 → x ≡ get_or (bytes_of text) i 0 → take i (bytes_of text) ++ (x ∷ []) ≡ take (i + 1) (bytes_of text)
+byte_next text i x more here =
+    let size = length_bytes text in
+    ap (λ y. take i (bytes_of text) ++ (y ∷ [])) here ∙ sym (take_more (bytes_of text) i 0 (omega arith))
+
 -- One pair more.
 pub pair_next : (text : List ℕ) (pairs : List (List ℕ)) (i x : ℕ) → pairs ≡ first_chunks 2 (length text / 2) text → i < length text / 2
     → x ≡ byte_of (get_or (get_or pairs i []) 0 0) (get_or (get_or pairs i []) 1 0)
     → take i (bytes_of text) ++ (x ∷ []) ≡ take (i + 1) (bytes_of text)
 pair_next text pairs i x are more is =
-    let size = length_bytes text in
-    let within : i < length (bytes_of text) = omega arith in
-    let here : x ≡ get_or (bytes_of text) i 0 =
-    is
+    byte_next text i x more
+    (is
     ∙ ap (λ ps. byte_of (get_or (get_or ps i []) 0 0) (get_or (get_or ps i []) 1 0)) are
-    ∙ chunk_byte (length text / 2) text i more (omega arith) in
-    ap (λ y. take i (bytes_of text) ++ (y ∷ [])) here ∙ sym (take_more (bytes_of text) i 0 within)
+    ∙ chunk_byte (length text / 2) text i more (omega arith))
 
 pub get_or-bytes : (text : List ℕ) (i : ℕ) → i < length text / 2 → get_or (bytes_of text) i 0 ≡ byte_of (get_or text (2 * i) 0) (get_or text (2 * i + 1) 0)
 get_or-bytes [] i h = absurd (omega arith)
@@ -86,11 +87,7 @@ pub pair_more : (buf text b0 b1 : List ℕ) (i x : ℕ)
     → b1 ≡ begun buf (take (i + 1) (bytes_of text))
 pair_more buf text b0 b1 i x more p0 is p1 =
     let size = length_bytes text in
-    let within : i < length (bytes_of text) = omega arith in
-    let here : x ≡ get_or (bytes_of text) i 0 = is ∙ sym (get_or-bytes text i more) in
-    let next : take i (bytes_of text) ++ (x ∷ []) ≡ take (i + 1) (bytes_of text) =
-    ap (λ y. take i (bytes_of text) ++ (y ∷ [])) here ∙ sym (take_more (bytes_of text) i 0 within) in
     p1
     ∙ ap (λ b. put_at b i (x ∷ [])) p0
     ∙ put_begun buf (take i (bytes_of text)) (x ∷ []) i (length-take-le i (bytes_of text) (omega arith))
-    ∙ ap (begun buf) next
+    ∙ ap (begun buf) (byte_next text i x more (is ∙ sym (get_or-bytes text i more)))

@@ -9,8 +9,8 @@ use std::io::{BufRead, BufReader, BufWriter, Write};
 // One byte more than is answered, so that a longer line is known.
 const MOST: usize = LONGEST + 1;
 
-// Reads a line without its newline, but of one that is too long only as much as shows it. False if the input ended it, behind
-// whose end nothing is read.
+// Reads a line without its newline, but of one that is too long only as much as shows it. False where the input ends in place of
+// the newline; nothing is read behind that end.
 fn read_line<R: BufRead>(input: &mut R, line: &mut Vec<u8>) -> io::Result<bool> {
     line.clear();
     // Kept a count, here and below: a loop has to end, and no number tells how much input comes.
